@@ -1,0 +1,5 @@
+pub mod Ranges
+pub mod Falls
+pub mod Rows
+pub mod Valuation
+pub mod Worked
