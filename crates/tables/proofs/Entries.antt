@@ -1,35 +1,14 @@
 -- Every row of a table is in range, and stays so.
-use Prim.Native.Nat.{ℕ, zero, suc, _≤_}
+use Prim.Native.Nat.{ℕ, zero, suc}
 use mathlib.Core.Bool.{true, _&&_}
 use mathlib.Core.List.{List, [], _∷_}
 use mathlib.Core.Path.{_≡_, refl}
-use lib.Dec.{leb}
 use lib.ListN.{getD, set}
 use Rattle.std.specs.declared.option.Option.{Option}
 use Rattle.std.specs.declared.option.Option.the-variants.{Some, None}
-use Rattle.std.proofs.shelf.Tests.{and-parts, and-from, leb-true, le-leb}
+use Rattle.std.proofs.shelf.Tests.{and-parts, and-from}
 use Rattle.tables.specs.declared.row.Row.{Row}
-use Rattle.tables.specs.Ranges.{oddsFit, fallFits}
 use Rattle.tables.specs.Rows.{entryFits, rowsFit, rowFits, rowAt}
-
-pub odds-fit : (odds : ℕ) → 1 ≤ odds → odds ≤ 999999 → oddsFit odds ≡ true
-odds-fit odds low high = and-from (leb 1 odds) (leb odds 999999) (le-leb 1 odds low) (le-leb odds 999999 high)
-
--- the numbers of a row that fits are in range
-pub record InRange (row : Row) : Type 0 where
-  pub some : 1 ≤ row .odds
-  pub most : row .odds ≤ 999999
-  pub small : row .fall ≤ 100000
-
-pub row-in-range : (row : Row) → rowFits row ≡ true → InRange row
-row-in-range row h =
-    let parts = and-parts (oddsFit (row .odds)) (fallFits (row .fall)) h in
-    let odds = and-parts (leb 1 (row .odds)) (leb (row .odds) 999999) (parts .0) in
-    record {
-      some = leb-true 1 (row .odds) (odds .0);
-      most = leb-true (row .odds) 999999 (odds .1);
-      small = leb-true (row .fall) 100000 (parts .1);
-    }
 
 pub fit-set : (rows : List (Option Row)) (age : ℕ) (row : Row) → rowFits row ≡ true → rowsFit rows ≡ true
     → rowsFit (set rows age (Some row)) ≡ true

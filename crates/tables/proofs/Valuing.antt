@@ -3,64 +3,61 @@ use Prim.Native.Nat.{ℕ, zero, suc, _+_, _-_, _≤_, _<_}
 use native.Mathlib.Numerals.{add-one}
 use native.Mathlib.Omega.{arith}
 use mathlib.Core.Bool.{true}
-use mathlib.Core.Path.{_≡_, refl, ap, subst, _∙_}
+use mathlib.Core.Path.{_≡_, refl, ap, subst}
 use lib.IntN.{ℤ, pos, negℤ, _+ℤ_}
 use lib.Signed.{_≤ℤ_}
 use Rattle.std.proofs.shelf.Signed.{ints}
+use Rattle.std.proofs.shelf.Tests.{and-parts}
 use Rattle.tables.specs.declared.row.Row.{Row}
-use Rattle.tables.specs.declared.row.Rates.{Rates}
 use Rattle.tables.specs.Falls.{fallOf, oddsLeft, oddsAfter}
-use Rattle.tables.specs.Ranges.{oddsFit}
+use Rattle.tables.specs.Ranges.{oddsFit, fallFits}
 use Rattle.tables.specs.Rows.{rowFits}
 use Rattle.tables.specs.Valuation.{ratesAfter, Valued}
-use Rattle.tables.proofs.Entries.{odds-fit, InRange, row-in-range}
-use Rattle.tables.proofs.Falling.{fall-below, after-low, after-at-most, never-more}
+use Rattle.tables.proofs.Falling.{odds-low, odds-high, after-fits, left-fits, fall-within, never-more}
 
 -- odds less a part of them are odds plus the negative of that part
 taken : (odds part : ℕ) → part ≤ odds → pos (odds - part) ≡ pos odds +ℤ negℤ (pos part)
 taken odds part h = omega (arith, ints)
 
+low-signed : (n : ℕ) (z : ℤ) → pos n ≡ z → 1 ≤ n → pos 1 ≤ℤ z
+low-signed n z e h = omega (arith, ints)
+
+high-signed : (n : ℕ) (z : ℤ) → pos n ≡ z → n ≤ 999999 → z ≤ℤ pos 999999
+high-signed n z e h = omega (arith, ints)
+
+lt-le : (a b : ℕ) → a < b → a ≤ b
+lt-le a b h = omega arith
+
+split : (years later : ℕ) → years ≤ later → years + (later - years) ≡ later
+split years later h = omega arith
+
 module _ (row : Row) (fits : rowFits row ≡ true) (years : ℕ) where
-  in-range : InRange row
-  in-range = row-in-range row fits
+  small : fallFits (row .fall) ≡ true
+  small = and-parts (oddsFit (row .odds)) (fallFits (row .fall)) fits .1
 
-  low : 1 ≤ oddsAfter (row .fall) years (row .odds)
-  low = after-low (row .fall) (row .odds) (in-range .small) (in-range .some) years
+  pub odds-fit-after : oddsFit (oddsAfter (row .fall) years (row .odds)) ≡ true
+  odds-fit-after = after-fits (row .fall) small (row .odds) years (and-parts (oddsFit (row .odds)) (fallFits (row .fall)) fits .0)
 
-  pub high : oddsAfter (row .fall) years (row .odds) ≤ 999999
-  high = omega (arith, after-at-most (row .fall) (row .odds) years, in-range .most)
-
-  pub after-fits : oddsFit (oddsAfter (row .fall) years (row .odds)) ≡ true
-  after-fits = odds-fit (oddsAfter (row .fall) years (row .odds)) low high
-
-  pub fall-within : fallOf (row .fall) (oddsAfter (row .fall) years (row .odds)) < oddsAfter (row .fall) years (row .odds)
-  fall-within = fall-below (row .fall) (oddsAfter (row .fall) years (row .odds)) (in-range .small) low
-
-  next : pos (oddsAfter (row .fall) (years + 1) (row .odds)) ≡ pos (ratesAfter years row .odds) +ℤ ratesAfter years row .change
-  unfolding oddsAfter oddsLeft
+  next : pos (oddsLeft (row .fall) (oddsAfter (row .fall) years (row .odds))) ≡ pos (ratesAfter years row .odds) +ℤ ratesAfter years row .change
   next =
-      rw add-one
-      (taken (oddsAfter (row .fall) years (row .odds)) (fallOf (row .fall) (oddsAfter (row .fall) years (row .odds)))
-      (omega (arith, fall-within)))
+      taken (oddsAfter (row .fall) years (row .odds)) (fallOf (row .fall) (oddsAfter (row .fall) years (row .odds)))
+      (lt-le (fallOf (row .fall) (oddsAfter (row .fall) years (row .odds))) (oddsAfter (row .fall) years (row .odds))
+      (fall-within (row .fall) small (oddsAfter (row .fall) years (row .odds)) odds-fit-after))
 
-  in-base : years ≡ 0 → oddsAfter (row .fall) years (row .odds) ≡ row .odds
-  unfolding oddsAfter
-  in-base e = rw e
+  next-fits : oddsFit (oddsLeft (row .fall) (oddsAfter (row .fall) years (row .odds))) ≡ true
+  next-fits = left-fits (row .fall) small (oddsAfter (row .fall) years (row .odds)) odds-fit-after
 
   pub valued : Valued row years (ratesAfter years row)
   valued =
-      let l = low in
-      let h = high in
-      let f = fall-within in
       record {
-        base-year = in-base;
-        year-later = next;
-        odds-low = low;
-        odds-high = high;
-        next-low = omega (arith, ints);
-        next-high = omega (arith, ints);
-        never-more = λ later more. subst (λ n. oddsAfter (row .fall) n (row .odds) ≤ oddsAfter (row .fall) years (row .odds)) (split later more) (never-more (row .fall) (row .odds) years (later - years));
+        base-year = λ e. ap (λ n. oddsAfter (row .fall) n (row .odds)) e;
+        year-later = rw add-one next;
+        odds-low = odds-low (oddsAfter (row .fall) years (row .odds)) odds-fit-after;
+        odds-high = odds-high (oddsAfter (row .fall) years (row .odds)) odds-fit-after;
+        next-low = low-signed (oddsLeft (row .fall) (oddsAfter (row .fall) years (row .odds))) _ next (odds-low _ next-fits);
+        next-high = high-signed (oddsLeft (row .fall) (oddsAfter (row .fall) years (row .odds))) _ next (odds-high _ next-fits);
+        never-more =
+            λ later more.
+            subst (λ n. oddsAfter (row .fall) n (row .odds) ≤ oddsAfter (row .fall) years (row .odds)) (split years later more)
+            (never-more (row .fall) (row .odds) years (later - years));
       }
-    where
-      split : (later : ℕ) → years ≤ later → years + (later - years) ≡ later
-      split later more = omega arith

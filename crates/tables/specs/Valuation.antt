@@ -5,10 +5,12 @@ use mathlib.Core.List.{List}
 use lib.IntN.{ℤ, pos, negℤ, _+ℤ_}
 use lib.Signed.{_≤ℤ_}
 use Rattle.std.specs.Options.{mapped, okOr}
-use Rattle.std.specs.Results.{Cases}
+use Rattle.std.specs.Options as Options
+use Rattle.std.specs.Results as Results
 use Rattle.std.specs.declared.option.Option.{Option}
-use Rattle.std.specs.declared.option.Option.the-variants.{Some, None}
+use Rattle.std.specs.declared.option.Option.the-variants.{None}
 use Rattle.std.specs.declared.result.Result.{Result}
+use Rattle.std.specs.declared.result.Result.the-variants.{Ok, Err}
 use Rattle.refusals.specs.declared.Refusal.{Refusal}
 use Rattle.refusals.specs.declared.Refusal.the-variants.{AgeWithoutRow}
 use Rattle.tables.specs.declared.row.Row.{Row}
@@ -51,5 +53,4 @@ pub record Valued (row : Row) (years : ℕ) (rates : Rates) : Type 0 where
 -- what the answer for an age means: the rates of its row, or that it has none
 abbrev pub ValuedAt : List (Option Row) → ℕ → ℕ → Result Rates Refusal → Type 0
 ValuedAt rows years age answer =
-    Cases answer (λ rates. (row : Row) × (rowAt rows age ≡ Some row) × Valued row years rates)
-    (λ refusal. (rowAt rows age ≡ None) × (refusal ≡ AgeWithoutRow))
+    Options.Cases (rowAt rows age) (answer ≡ Err AgeWithoutRow) (λ row. Results.Cases answer (Valued row years) (λ refusal. ⊥))

@@ -10,51 +10,27 @@ pub struct Worked {
     pub odds: u32,
 }
 
+fn by_hand(odds: u32, fall: u32, years: u16, valued: u32) -> Worked
+    ensures { λ r. ⌜ r ≡ record { row = record { odds = odds; fall = fall }; years = years; odds = valued } ⌝ }
+{
+    let row = Row { odds, fall };
+    Worked {
+        row,
+        years,
+        odds: valued,
+    }
+}
+
 // Values worked out by hand, each of which the definition of odds at valuation gives.
 pub fn worked_values() -> [Worked; 5]
     ensures value { λ r. ⌜ r ≡ workedValues ⌝ }
     ensures worked_out { λ _. ⌜ WorkedOut ⌝ }
 {
     [
-        Worked {
-            row: Row {
-                odds: 12_000,
-                fall: 10_000,
-            },
-            years: 2,
-            odds: 11_761,
-        },
-        Worked {
-            row: Row {
-                odds: 5,
-                fall: 100_000,
-            },
-            years: 1,
-            odds: 4,
-        },
-        Worked {
-            row: Row {
-                odds: 15,
-                fall: 100_000,
-            },
-            years: 2,
-            odds: 12,
-        },
-        Worked {
-            row: Row {
-                odds: 999_999,
-                fall: 100_000,
-            },
-            years: 1,
-            odds: 899_999,
-        },
-        Worked {
-            row: Row {
-                odds: 100,
-                fall: 10_000,
-            },
-            years: 100,
-            odds: 49,
-        },
+        by_hand(12_000, 10_000, 2, 11_761),
+        by_hand(5, 100_000, 1, 4),
+        by_hand(15, 100_000, 2, 12),
+        by_hand(999_999, 100_000, 1, 899_999),
+        by_hand(100, 10_000, 100, 49),
     ]
 }

@@ -1,26 +1,34 @@
 use native.Mathlib.Omega.{arith}
-use Prim.Native.Nat.{ℕ, _<_}
-use mathlib.Core.Path.{_≡_, ap, ap₂, _∙_}
+use Prim.Native.Nat.{ℕ, _<_, _≤_}
+use mathlib.Core.Path.{_≡_, ap, ap₂, subst, sym, _∙_}
 use lib.IntN.{ℤ, pos, negℤ, _-ℤ_}
 use mir.Syntax.{w32}
 use mir.Val.{toZ, ofZ}
 use Rattle.std.proofs.shelf.Signed.{ints}
 use Rattle.std.proofs.shelf.Tests.{and-parts}
 use Rattle.tables.specs.declared.row.Rates.{Rates}
-use Rattle.tables.specs.Falls.{fallOf, oddsAfter}
-use Rattle.tables.proofs.Valuing.{after-fits, fall-within, high}
+use Rattle.tables.specs.Falls.{fallOf}
+use Rattle.tables.specs.Valuation.{ratesAfter, Valued}
+use Rattle.tables.proofs.Falling.{fall-within, odds-high}
+use Rattle.tables.proofs.Valuing.{valued}
 use Rattle.tables.proofs.falls.rates_after.Needs as need
-
-pub fall-of-fall-requires : need.fall-of-fall-requires
-fall-of-fall-requires c κs =
-    (rw (c .odds-after-odds .ensures) (after-fits (c .args .row) (c .pre) (c .args .years)), and-parts _ _ (c .pre) .1)
 
 -- the fall is below a million
 few : (c : need.After-fall-of-fall) → c .fall-of-fall .result < 1000000
 few c =
-    let within = fall-within (c .args .row) (c .pre) (c .args .years) in
-    let most = high (c .args .row) (c .pre) (c .args .years) in
-    rw (c .fall-of-fall .ensures, c .odds-after-odds .ensures) (omega arith)
+    below (c .fall-of-fall .result) (fallOf (c .args .row .fall) odds) (c .fall-of-fall .ensures)
+    (fall-within (c .args .row .fall) (and-parts _ _ (c .pre) .1) odds (c .odds-after-odds .ensures .fits))
+    (odds-high odds (c .odds-after-odds .ensures .fits))
+  where
+    odds : ℕ
+    odds = c .odds-after-odds .result
+
+    below : (fall other : ℕ) → fall ≡ other → other < odds → odds ≤ 999999 → fall < 1000000
+    below fall other e h m = omega arith
+
+-- a small number, negated as a signed number of 32 bits
+negated : (n : ℕ) → n < 1000000 → toZ w32 (ofZ w32 (pos 0 -ℤ toZ w32 n)) ≡ negℤ (pos n)
+negated n h = omega (arith, ints)
 
 pub cast-result : need.cast-result
 cast-result c = let h = few c in omega (arith, ints)
@@ -30,7 +38,7 @@ sub-result c = let h = few c in omega (arith, ints)
 
 pub returns : need.returns
 returns c =
-    let h = few c in
-    let change : _≡_ {A = ℤ} (toZ w32 (ofZ w32 (pos 0 -ℤ toZ w32 (c .fall-of-fall .result)))) (negℤ (pos (c .fall-of-fall .result))) = omega (arith, ints) in
-    let fall : c .fall-of-fall .result ≡ fallOf (c .args .row .fall) (oddsAfter (c .args .row .fall) (c .args .years) (c .args .row .odds)) = rw (c .fall-of-fall .ensures, c .odds-after-odds .ensures) in
-    ap₂ (λ (o : ℕ) (z : ℤ). record { odds = o; change = z }) (c .odds-after-odds .ensures) (change ∙ ap (λ n. negℤ (pos n)) fall)
+    let odds = c .odds-after-odds .ensures .value in
+    let change = negated (c .fall-of-fall .result) (few c) ∙ ap (λ n. negℤ (pos n)) (c .fall-of-fall .ensures ∙ ap (fallOf (c .args .row .fall)) odds) in
+    let value = ap₂ (λ (o : ℕ) (z : ℤ). record { odds = o; change = z }) odds change in
+    record { value = value; meaning = subst (Valued (c .args .row) (c .args .years)) (sym value) (valued (c .args .row) (c .pre) (c .args .years)) }
