@@ -19,7 +19,7 @@ const ROWS: [(usize, u32, u32); 12] = [
 ];
 
 // A mortality table of a dozen ages.
-pub fn table() -> Result<Table, Refusal> {
+pub(crate) fn table() -> Result<Table, Refusal> {
     let mut table = Table::new();
     for (age, odds, fall) in ROWS {
         table.set_row(age, Row { odds, fall })?;

@@ -56,7 +56,7 @@ fn print_rates(rt: &impl Print, table: &DatedTable) -> io::Result<u32> {
 }
 
 // The part of the report on a table's valuation.
-pub fn report(rt: &impl Print) -> Result<(), AnyError> {
+pub(crate) fn report(rt: &impl Print) -> Result<(), AnyError> {
     println!(rt, "Years tried for the table")?;
     try_years(rt, 2020, 2019)?;
     let Some(years) = try_years(rt, 2020, 2026)? else {

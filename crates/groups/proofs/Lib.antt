@@ -1,0 +1,4 @@
+pub mod Order
+pub mod PairOrder
+pub mod Totals
+pub mod WholeOrder

@@ -1,0 +1,3 @@
+pub mod Group
+pub mod Groups
+pub mod Sums

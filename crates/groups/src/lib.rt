@@ -1,0 +1,1 @@
+// Ordered groups: what amounts stand for. Definitions and lemmas, and no code.
