@@ -8,8 +8,8 @@ use Rattle.groups.specs.Sums.{Le, Lt, above, minus}
 module _ (G : Group) (L : Ordered G) where
   open Group G using (Element as E, plus as _⊕_, nil as o, neg, le)
   open Ordered L using (assoc, comm, unit, inverse, reflexive, antisym, trans, total, shift)
-  infixl 65 _⊕_
 
+  infixl 65 _⊕_
   pub left-comm : (a b c : E) → a ⊕ (b ⊕ c) ≡ b ⊕ (a ⊕ c)
   left-comm a b c = sym (assoc a b c) ∙ ap (λ z. z ⊕ c) (comm a b) ∙ assoc b a c
 
@@ -43,7 +43,7 @@ module _ (G : Group) (L : Ordered G) where
   pub plus-le : (a b c d : E) → Le G a b → Le G c d → Le G (a ⊕ c) (b ⊕ d)
   plus-le a b c d h k =
       trans (a ⊕ c) (b ⊕ c) (b ⊕ d) (shift a b c h)
-        (let m = shift c d b k in rw (comm c b, comm d b) at m)
+      (let m = shift c d b k in rw (comm c b, comm d b) at m)
 
   pub plus-nonneg : (a b : E) → Le G o a → Le G o b → Le G o (a ⊕ b)
   plus-nonneg a b h k = let m = plus-le o a o b h k in rw (unit o) at m
@@ -87,7 +87,7 @@ module _ (G : Group) (L : Ordered G) where
   pub lt-le-plus : (a b c d : E) → Lt G a b → Le G c d → Lt G (a ⊕ c) (b ⊕ d)
   lt-le-plus a b c d h k =
       lt-le-trans (a ⊕ c) (b ⊕ c) (b ⊕ d) (lt-shift a b c h)
-        (let m = shift c d b k in rw (comm c b, comm d b) at m)
+      (let m = shift c d b k in rw (comm c b, comm d b) at m)
 
   pub le-lt-plus : (a b c d : E) → Le G a b → Lt G c d → Lt G (a ⊕ c) (b ⊕ d)
   le-lt-plus a b c d h k = le-lt-trans (a ⊕ c) (b ⊕ c) (b ⊕ d) (shift a b c h) (lt-shift-left c d b k)

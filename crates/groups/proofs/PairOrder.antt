@@ -31,15 +31,15 @@ module _ (U V : Group) (P : Ordered U) (Q : Ordered V) where
   same-upper : (a b : Pair U V) → a .upper ≡ b .upper → Le V (a .lower) (b .lower) → lePair U V a b ≡ true
   same-upper a b e h =
       ap (λ t. cond t (U .le (a .upper) (b .upper) && V .le (a .lower) (b .lower)) true)
-        (le-of-eq U P (b .upper) (a .upper) (sym e))
-        ∙ and-from (U .le (a .upper) (b .upper)) (V .le (a .lower) (b .lower)) (le-of-eq U P (a .upper) (b .upper) e) h
+      (le-of-eq U P (b .upper) (a .upper) (sym e))
+      ∙ and-from (U .le (a .upper) (b .upper)) (V .le (a .lower) (b .lower)) (le-of-eq U P (a .upper) (b .upper) e) h
 
   which : (a b : Pair U V) → lePair U V a b ≡ true
       → (Lt U (a .upper) (b .upper)) ⊎ ((a .upper ≡ b .upper) × Le V (a .lower) (b .lower))
   which a b h = go (U .le (b .upper) (a .upper)) refl
     where
       go : (t : Bool) → U .le (b .upper) (a .upper) ≡ t
-        → (Lt U (a .upper) (b .upper)) ⊎ ((a .upper ≡ b .upper) × Le V (a .lower) (b .lower))
+          → (Lt U (a .upper) (b .upper)) ⊎ ((a .upper ≡ b .upper) × Le V (a .lower) (b .lower))
       go true e =
           let both : (U .le (a .upper) (b .upper) && V .le (a .lower) (b .lower)) ≡ true = sym (ap (λ t. cond t (U .le (a .upper) (b .upper) && V .le (a .lower) (b .lower)) true) e) ∙ h in
           let parts = and-parts (U .le (a .upper) (b .upper)) (V .le (a .lower) (b .lower)) both in
@@ -53,7 +53,7 @@ module _ (U V : Group) (P : Ordered U) (Q : Ordered V) where
   pair-antisym a b h k = go (which a b h) (which b a k)
     where
       go : (Lt U (a .upper) (b .upper)) ⊎ ((a .upper ≡ b .upper) × Le V (a .lower) (b .lower))
-        → (Lt U (b .upper) (a .upper)) ⊎ ((b .upper ≡ a .upper) × Le V (b .lower) (a .lower)) → a ≡ b
+          → (Lt U (b .upper) (a .upper)) ⊎ ((b .upper ≡ a .upper) × Le V (b .lower) (a .lower)) → a ≡ b
       go (inl p) (inl q) = absurd (not-both U P (a .upper) (b .upper) p (lt-le U P (b .upper) (a .upper) q))
       go (inl p) (inr q) = absurd (not-both U P (a .upper) (b .upper) p (le-of-eq U P (b .upper) (a .upper) (q .0)))
       go (inr p) (inl q) = absurd (not-both U P (b .upper) (a .upper) q (le-of-eq U P (a .upper) (b .upper) (p .0)))
@@ -63,7 +63,7 @@ module _ (U V : Group) (P : Ordered U) (Q : Ordered V) where
   pair-trans a b c h k = go (which a b h) (which b c k)
     where
       go : (Lt U (a .upper) (b .upper)) ⊎ ((a .upper ≡ b .upper) × Le V (a .lower) (b .lower))
-        → (Lt U (b .upper) (c .upper)) ⊎ ((b .upper ≡ c .upper) × Le V (b .lower) (c .lower)) → lePair U V a c ≡ true
+          → (Lt U (b .upper) (c .upper)) ⊎ ((b .upper ≡ c .upper) × Le V (b .lower) (c .lower)) → lePair U V a c ≡ true
       go (inl p) (inl q) =
           below-upper a c (lt-le-trans U P (a .upper) (b .upper) (c .upper) p (lt-le U P (b .upper) (c .upper) q))
       go (inl p) (inr q) = below-upper a c (subst (λ z. Lt U (a .upper) z) (q .0) p)
@@ -75,13 +75,13 @@ module _ (U V : Group) (P : Ordered U) (Q : Ordered V) where
   pair-total a b = go (U .le (b .upper) (a .upper)) refl (U .le (a .upper) (b .upper)) refl
     where
       go : (s : Bool) → U .le (b .upper) (a .upper) ≡ s → (t : Bool) → U .le (a .upper) (b .upper) ≡ t
-        → (lePair U V a b ≡ true) ⊎ (lePair U V b a ≡ true)
+          → (lePair U V a b ≡ true) ⊎ (lePair U V b a ≡ true)
       go false p t q = inl (below-upper a b p)
       go true p false q = inr (below-upper b a q)
       go true p true q = lower (P .antisym (a .upper) (b .upper) q p) (Q .total (a .lower) (b .lower))
         where
           lower : a .upper ≡ b .upper → (Le V (a .lower) (b .lower)) ⊎ (Le V (b .lower) (a .lower))
-            → (lePair U V a b ≡ true) ⊎ (lePair U V b a ≡ true)
+              → (lePair U V a b ≡ true) ⊎ (lePair U V b a ≡ true)
           lower e (inl h) = inl (same-upper a b e h)
           lower e (inr h) = inr (same-upper b a (sym e) h)
 
@@ -89,22 +89,22 @@ module _ (U V : Group) (P : Ordered U) (Q : Ordered V) where
   pair-shift a b c h = go (which a b h)
     where
       go : (Lt U (a .upper) (b .upper)) ⊎ ((a .upper ≡ b .upper) × Le V (a .lower) (b .lower))
-        → lePair U V (pairs U V .plus a c) (pairs U V .plus b c) ≡ true
+          → lePair U V (pairs U V .plus a c) (pairs U V .plus b c) ≡ true
       go (inl p) = below-upper (pairs U V .plus a c) (pairs U V .plus b c) (lt-shift U P (a .upper) (b .upper) (c .upper) p)
       go (inr p) =
           same-upper (pairs U V .plus a c) (pairs U V .plus b c) (ap (λ z. U .plus z (c .upper)) (p .0))
-            (Q .shift (a .lower) (b .lower) (c .lower) (p .1))
+          (Q .shift (a .lower) (b .lower) (c .lower) (p .1))
 
   pub pairs-ordered : Ordered (pairs U V)
   pairs-ordered =
       record {
-        assoc = pair-assoc
-      ; comm = pair-comm
-      ; unit = pair-unit
-      ; inverse = pair-inverse
-      ; reflexive = pair-refl
-      ; antisym = pair-antisym
-      ; trans = pair-trans
-      ; total = pair-total
-      ; shift = pair-shift
+        assoc = pair-assoc;
+        comm = pair-comm;
+        unit = pair-unit;
+        inverse = pair-inverse;
+        reflexive = pair-refl;
+        antisym = pair-antisym;
+        trans = pair-trans;
+        total = pair-total;
+        shift = pair-shift;
       }

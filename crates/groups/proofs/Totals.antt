@@ -12,8 +12,8 @@ use Rattle.groups.proofs.Order.{cross, swap-last, plus-le, plus-nonneg, lt-le-
 module _ (G : Group) (L : Ordered G) where
   open Group G using (Element as E, plus as _⊕_, nil as o, neg, le)
   open Ordered L using (assoc, comm, unit, inverse, reflexive, antisym, trans, total, shift)
-  infixl 65 _⊕_
 
+  infixl 65 _⊕_
   pub sum-ext : (n : ℕ) (f h : ℕ → E) → ((k : ℕ) → k < n → f k ≡ h k) → sumBelow G n f ≡ sumBelow G n h
   sum-ext zero f h e = refl
   sum-ext (suc n) f h e = ap₂ _⊕_ (sum-ext n f h (λ k l. e k (omega arith))) (e n (omega arith))
@@ -32,7 +32,7 @@ module _ (G : Group) (L : Ordered G) where
   sum-swap zero m f = sym (sum-nil m (λ i. o) (λ k l. refl))
   sum-swap (suc n) m f =
       ap (λ z. z ⊕ sumBelow G m (λ i. f n i)) (sum-swap n m f)
-        ∙ sym (sum-plus m (λ i. sumBelow G n (λ j. f j i)) (λ i. f n i))
+      ∙ sym (sum-plus m (λ i. sumBelow G n (λ j. f j i)) (λ i. f n i))
 
   pub sum-le : (n : ℕ) (f h : ℕ → E) → ((k : ℕ) → k < n → Le G (f k) (h k)) → Le G (sumBelow G n f) (sumBelow G n h)
   sum-le zero f h e = reflexive o
@@ -50,10 +50,10 @@ module _ (G : Group) (L : Ordered G) where
   sum-lt (suc n) f h c b e s = go (cases-eq c n) (λ l. sum-lt n f h c l (λ k m. e k (omega arith)) s)
     where
       go : (c ≡ n) ⊎ (c ≡ n → ⊥) → (c < n → Lt G (sumBelow G n f) (sumBelow G n h))
-        → Lt G (sumBelow G n f ⊕ f n) (sumBelow G n h ⊕ h n)
+          → Lt G (sumBelow G n f ⊕ f n) (sumBelow G n h ⊕ h n)
       go (inl q) ih =
           le-lt-plus G L (sumBelow G n f) (sumBelow G n h) (f n) (h n) (sum-le n f h (λ k m. e k (omega arith)))
-            (subst (λ z. Lt G (f z) (h z)) q s)
+          (subst (λ z. Lt G (f z) (h z)) q s)
       go (inr q) ih = lt-le-plus G L (sumBelow G n f) (sumBelow G n h) (f n) (h n) (ih (omega arith)) (e n (omega arith))
 
   -- one changed term
@@ -63,10 +63,10 @@ module _ (G : Group) (L : Ordered G) where
   sum-one (suc n) f h c d b e s = go (cases-eq c n) (λ l. sum-one n f h c d l (λ k m. e k (omega arith)) s)
     where
       go : (c ≡ n) ⊎ (c ≡ n → ⊥) → (c < n → sumBelow G n f ≡ sumBelow G n h ⊕ d)
-        → sumBelow G n f ⊕ f n ≡ (sumBelow G n h ⊕ h n) ⊕ d
+          → sumBelow G n f ⊕ f n ≡ (sumBelow G n h ⊕ h n) ⊕ d
       go (inl q) ih =
           ap₂ _⊕_ (sum-ext n f h (λ k m. e k (omega arith) (omega arith))) (subst (λ z. f z ≡ h z ⊕ d) q s)
-            ∙ sym (assoc (sumBelow G n h) (h n) d)
+          ∙ sym (assoc (sumBelow G n h) (h n) d)
       go (inr q) ih =
           ap₂ _⊕_ (ih (omega arith)) (e n (omega arith) (omega arith)) ∙ swap-last G L (sumBelow G n h) d (h n)
 
@@ -79,10 +79,9 @@ module _ (G : Group) (L : Ordered G) where
       top true q = q
       top false q =
           absurd
-            (not-both G L (sumBelow G n (λ i. o)) (sumBelow G n f) (sum-lt n (λ i. o) f k l e q)
-              (le-of-eq G L (sumBelow G n f) (sumBelow G n (λ i. o)) (s ∙ sym (sum-nil n (λ i. o) (λ i m. refl)))))
+          (not-both G L (sumBelow G n (λ i. o)) (sumBelow G n f) (sum-lt n (λ i. o) f k l e q)
+          (le-of-eq G L (sumBelow G n f) (sumBelow G n (λ i. o)) (s ∙ sym (sum-nil n (λ i. o) (λ i m. refl)))))
 
   pub sum-keep : (n : ℕ) (b : Bool) (f : ℕ → E) → keep G b (sumBelow G n f) ≡ sumBelow G n (λ i. keep G b (f i))
   sum-keep n true f = refl
   sum-keep n false f = sym (sum-nil n (λ i. o) (λ i m. refl))
-

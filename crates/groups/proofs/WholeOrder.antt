@@ -31,13 +31,13 @@ le-shift a b c h = grind (arith, ints)
 pub whole-ordered : Ordered whole
 whole-ordered =
     record {
-      assoc = +ℤ-assoc
-    ; comm = +ℤ-comm
-    ; unit = +ℤ-idr
-    ; inverse = +ℤ-invr
-    ; reflexive = le-refl
-    ; antisym = le-antisym
-    ; trans = le-trans
-    ; total = le-total
-    ; shift = le-shift
+      assoc = +ℤ-assoc;
+      comm = +ℤ-comm;
+      unit = +ℤ-idr;
+      inverse = +ℤ-invr;
+      reflexive = le-refl;
+      antisym = le-antisym;
+      trans = le-trans;
+      total = le-total;
+      shift = le-shift;
     }

@@ -21,9 +21,9 @@ lePair U V a b = cond (U .le (b .upper) (a .upper)) (U .le (a .upper) (b .upper)
 abbrev pub pairs : Group → Group → Group
 pairs U V =
     record {
-      Element = Pair U V
-    ; plus = λ a b. record { upper = U .plus (a .upper) (b .upper); lower = V .plus (a .lower) (b .lower) }
-    ; nil = record { upper = U .nil; lower = V .nil }
-    ; neg = λ a. record { upper = U .neg (a .upper); lower = V .neg (a .lower) }
-    ; le = lePair U V
+      Element = Pair U V;
+      plus = λ a b. record { upper = U .plus (a .upper) (b .upper); lower = V .plus (a .lower) (b .lower) };
+      nil = record { upper = U .nil; lower = V .nil };
+      neg = λ a. record { upper = U .neg (a .upper); lower = V .neg (a .lower) };
+      le = lePair U V;
     }

@@ -21,7 +21,7 @@ abbrev pub minus : (G : Group) → G .Element → G .Element → G .Element
 minus G a b = G .plus a (G .neg b)
 
 -- the lesser of two elements
-unfoldable pub lesser : (G : Group) → G .Element → G .Element → G .Element
+abbrev pub lesser : (G : Group) → G .Element → G .Element → G .Element
 lesser G a b = cond (G .le a b) a b
 
 -- f 0 + .. + f (n - 1)

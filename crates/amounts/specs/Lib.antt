@@ -1,0 +1,3 @@
+pub mod Drifts
+pub mod Kind
+pub mod Moneys
