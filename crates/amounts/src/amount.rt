@@ -1,5 +1,6 @@
 ghost use mathlib.Core.Path.{_≡_};
-ghost use mathlib.Core.Bool.{true, false};
+ghost use mathlib.Core.Bool.{true, cond};
+ghost use Rattle.std.specs.Orderings.{isGt};
 ghost use lib.ListN.{length};
 ghost use Rattle.refusals.specs.Judged.{judged, left};
 ghost use Rattle.groups.specs.Sums.{lesser as lesserElement};
@@ -69,9 +70,10 @@ pub trait Amount: Copy {
     }
 }
 
-// The lesser of two amounts, the first where they are equal.
+// The lesser of two amounts; the first where they are equal or one is no value.
 pub fn lesser<K: Amount>(a: K, b: K) -> K
-    ensures one { λ r. ⌜ (K·Amount .kind .value a ≡ true → K·Amount .kind .value b ≡ true → StandsFor (K·Amount .kind) r (lesserElement (K·Amount .kind .group) (K·Amount .kind .element a) (K·Amount .kind .element b))) ⌝ }
+    ensures value { λ r. ⌜ r ≡ cond (isGt (compared (K·Amount .kind) a b)) b a ⌝ }
+    ensures stands { λ r. ⌜ (K·Amount .kind .value a ≡ true → K·Amount .kind .value b ≡ true → StandsFor (K·Amount .kind) r (lesserElement (K·Amount .kind .group) (K·Amount .kind .element a) (K·Amount .kind .element b))) ⌝ }
 {
     match a.compare(b) {
         Ordering::Greater => b,

@@ -18,10 +18,10 @@ module _ (G : Group) (L : Ordered G) where
 
   -- (a + b) + (c + d) = (a + c) + (b + d)
   pub cross : (a b c d : E) → (a ⊕ b) ⊕ (c ⊕ d) ≡ (a ⊕ c) ⊕ (b ⊕ d)
-  cross a b c d = simp (assoc, comm, left-comm)
+  cross a b c d = simp (assoc, left-comm)
 
   pub swap-last : (a b c : E) → (a ⊕ b) ⊕ c ≡ (a ⊕ c) ⊕ b
-  swap-last a b c = simp (assoc, comm, left-comm)
+  swap-last a b c = simp (assoc, comm)
 
   pub undo : (a c : E) → (a ⊕ c) ⊕ neg c ≡ a
   undo a c = assoc a c (neg c) ∙ ap (λ z. a ⊕ z) (inverse c) ∙ unit a
@@ -36,6 +36,13 @@ module _ (G : Group) (L : Ordered G) where
   le-cancel a b c h =
       let k = shift (a ⊕ c) (b ⊕ c) (neg c) h in
       rw (undo a c, undo b c) at k
+
+  -- a term moves across
+  pub across : (a b c : E) → a ⊕ c ≡ b → a ≡ minus G b c
+  across a b c e = sym (undo a c) ∙ ap (λ z. z ⊕ neg c) e
+
+  pub le-across : (a b c : E) → Le G (a ⊕ c) b → Le G a (minus G b c)
+  le-across a b c h = let k = shift (a ⊕ c) b (neg c) h in rw (undo a c) at k
 
   pub le-of-eq : (a b : E) → a ≡ b → Le G a b
   le-of-eq a b e = subst (λ z. Le G a z) e (reflexive a)

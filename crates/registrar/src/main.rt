@@ -1,11 +1,14 @@
 // The registrar's worked report: one task after another, from beginning to end.
 mod sample;
 mod valuation;
+mod weights;
 
 use std::error::AnyError;
 
 fn run(rt: &impl Print) -> Result<(), AnyError> {
-    valuation::report(rt)
+    let table = valuation::report(rt)?;
+    println!(rt, "")?;
+    weights::report(rt, &table)
 }
 
 fn main(rt: LibcRuntime) -> Result<(), AnyError> {

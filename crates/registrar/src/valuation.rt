@@ -55,8 +55,8 @@ fn print_rates(rt: &impl Print, table: &DatedTable) -> io::Result<u32> {
     Ok(valued)
 }
 
-// The part of the report on a table's valuation.
-pub(crate) fn report(rt: &impl Print) -> Result<(), AnyError> {
+// The part of the report on a table's valuation. It hands the table on, dated.
+pub(crate) fn report(rt: &impl Print) -> Result<DatedTable, AnyError> {
     println!(rt, "Years tried for the table")?;
     try_years(rt, 2020, 2019)?;
     let Some(years) = try_years(rt, 2020, 2026)? else {
@@ -70,5 +70,5 @@ pub(crate) fn report(rt: &impl Print) -> Result<(), AnyError> {
     print_heading(rt, table.years())?;
     let valued = print_rates(rt, &table)?;
     println!(rt, "{valued} ages valued")?;
-    Ok(())
+    Ok(table)
 }
