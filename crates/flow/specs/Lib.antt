@@ -1,0 +1,10 @@
+pub mod Counts
+pub mod Flow
+pub mod Levels
+pub mod Outcomes
+pub mod Reached
+pub mod Routes
+pub mod Runs
+pub mod Search
+pub mod Told
+pub mod Worked

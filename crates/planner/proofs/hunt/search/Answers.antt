@@ -1,0 +1,48 @@
+use mathlib.Core.Path.{_≡_, refl, sym, ap, subst, _∙_}
+use Prim.Native.Nat.{_+_, _<_, _≤_}
+use native.Mathlib.Omega.{arith}
+use borrow.Author.Needs.{needs}
+use Rattle.flow.specs.Search.{searching}
+use Rattle.flow.specs.Search.{turns, fresh}
+use Rattle.planner.specs.Model.{model, tests}
+use Rattle.planner.proofs.Turns.{tail-most, turns-end, first-in, left-sound, turn-made, turn-found}
+use Rattle.planner.proofs.hunt.search.Needs as need
+
+pub loop-q-holds : need.loop-q-holds
+unfolding turns
+loop-q-holds c =
+    (c .start-q .ensures .stands ∙ sym (ap (λ h. turns (tests (c .args .w .now)) h (fresh (tests (c .args .w .now)))) (c .start-q .ensures .first)), c .start-q .ensures .sound)
+
+pub index-q-q : need.index-q-q
+index-q-q c = omega (arith, tail-most (c .args .w .now) (c .loop-q .q) (c .loop-q .inv .1))
+
+pub add-q : need.add-q
+add-q c = let h = tail-most (c .args .w .now) (c .loop-q .q) (c .loop-q .inv .1) in search needs
+
+pub returns-in-Some : need.returns-in-Some
+returns-in-Some c = record {
+  stands =
+      turn-found (c .args .w .now) (c .loop-q .q) (c .loop-q .inv .1) (c .loop-q-test .taken) (c .pre .fitted) (c .loop-q .inv .0) (c .in-Some .i) (c .visit .last .q)
+      (c .in-Some .ensures tt .stands);
+  sound = c .in-Some .ensures tt .sound;
+  member = c .in-Some .ensures tt .member;
+}
+
+pub loop-q-less : need.loop-q-less
+loop-q-less c =
+    omega (arith, tail-most (c .args .w .now) (c .loop-q .q) (c .loop-q .inv .1), c .in-rest .ensures tt .still, c .loop-q-test .taken)
+
+pub loop-q-again : need.loop-q-again
+loop-q-again c = (
+  turn-made (c .args .w .now) (c .loop-q .q) (c .loop-q .inv .1) (c .loop-q-test .taken) (c .pre .fitted) (c .loop-q .inv .0) (model searching (c .visit .last .q))
+      (c .in-rest .ensures tt .stands)
+      ∙ sym (ap (λ h. turns (tests (c .args .w .now)) h (fresh (tests (c .args .w .now)))) (c .in-rest .ensures tt .still)),
+  c .in-rest .ensures tt .sound,
+)
+
+pub returns : need.returns
+returns c = record {
+  stands = turns-end (c .args .w .now) (c .loop-q .q) (c .loop-q .inv .1) searching (c .pre .fitted) (c .loop-q-test .left) (c .loop-q .inv .0);
+  sound = c .loop-q .inv .1;
+  member = tt;
+}

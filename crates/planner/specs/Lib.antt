@@ -1,0 +1,6 @@
+pub mod Answers
+pub mod Calls
+pub mod Model
+pub mod Step
+pub mod Tables
+pub mod Ways
