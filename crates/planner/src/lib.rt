@@ -1,3 +1,4 @@
+// The general plan call, for any kind of amount.
 mod answer;
 mod call;
 mod checks;
@@ -10,5 +11,7 @@ mod word;
 mod worked;
 
 pub use answer::Answer;
+pub use answer::AnswerDebug;
+pub use answer::AnswerPartialEq;
 pub use call::plan;
 pub use worked::worked_runs;
