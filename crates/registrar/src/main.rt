@@ -1,4 +1,5 @@
 // The registrar's worked report: one task after another, from beginning to end.
+mod planning;
 mod sample;
 mod valuation;
 mod weights;
@@ -8,7 +9,9 @@ use std::error::AnyError;
 fn run(rt: &impl Print) -> Result<(), AnyError> {
     let table = valuation::report(rt)?;
     println!(rt, "")?;
-    weights::report(rt, &table)
+    weights::report(rt, &table)?;
+    println!(rt, "")?;
+    planning::report(rt)
 }
 
 fn main(rt: LibcRuntime) -> Result<(), AnyError> {
