@@ -110,9 +110,8 @@ module _ (G : Group) (L : Ordered G) (held : G .Element → Bool) (t : Task (G .
       next =
           let f = found-route G t s z e in
           record {
-            giver = wayTo G t s z .first;
-            hops = wayTo G t s z .hops;
             receiver = z;
+            arrives = e;
             route = f .1;
             wants = f .0;
             passes = λ all. true≢false (sym (kept-step G held t s (wayTo G t s z .first) (wayTo G t s z .hops) z (f .1) all) ∙ h);
@@ -142,7 +141,7 @@ never-outgrown G L held t least weights zero-held below e =
     let m = a .means e in
     let s = outcome G held t .state in
     m .passes
-    (closed-kept G L held t _ below weights (augment-inv G L t s (m .giver) (m .hops) (m .receiver) (a .sums) (m .route) (m .wants)))
+    (closed-kept G L held t _ below weights (augment-inv G L t s (wayTo G t s (m .receiver) .first) (wayTo G t s (m .receiver) .hops) (m .receiver) (a .sums) (m .route) (m .wants)))
 
 -- of two kinds over one task, none plans what the other finds blocked
 pub exclude : (G : Group) (L : Ordered G) (held held′ : G .Element → Bool) (t : Task (G .Element))

@@ -75,14 +75,13 @@ module _ (G : Group) (held : G .Element → Bool) (t : Task (G .Element)) where
     pub g-held : (j : ℕ) → j < t .n → held (s .g j) ≡ true
     pub r-held : (i : ℕ) → i < t .n → held (s .r i) ≡ true
 
-  -- at s a step along a shortest route would leave some amount that is not held
+  -- at s the step along the way that the search finds, a shortest route, would leave some amount that is not held
   pub record Outgrows (s : State (G .Element)) : Type 0 where
-    pub giver : ℕ
-    pub hops : List Hop
     pub receiver : ℕ
-    pub route : Route G t s 0 giver hops receiver
+    pub arrives : search-of G t s .ends ≡ found receiver
+    pub route : Route G t s 0 (wayTo G t s receiver .first) (wayTo G t s receiver .hops) receiver
     pub wants : above G (s .r receiver) ≡ true
-    pub passes : AllHeld (augment G giver hops receiver s) → ⊥
+    pub passes : AllHeld (augment G (wayTo G t s receiver .first) (wayTo G t s receiver .hops) receiver s) → ⊥
 
   -- what an outcome says of the task
   pub record Answered (o : Outcome (G .Element)) : Type 0 where

@@ -1,5 +1,6 @@
 ghost use mathlib.Core.Path.{_≡_};
-ghost use mathlib.Core.Bool.{Bool, true, false};
+ghost use mathlib.Core.Bool.{Bool, true, false, not, _&&_};
+ghost use Rattle.words.specs.Words.{bit};
 ghost use Prim.Native.Nat.{ℕ, _+_, _*_, _<_, _≤_};
 ghost use lib.ListN.{length, getD};
 ghost use Rattle.flow.specs.Search.{searching};
@@ -11,6 +12,31 @@ use crate::state::Seek;
 use crate::state::Words;
 use crate::word::Places;
 
+// The giver at the queue's front.
+fn front(q: &Seek) -> usize
+    requires { ⌜ now q .head < 64 ⌝ }
+    ensures { λ r. ⌜ r ≡ getD (now (q .entry) .queue) (now (q .entry) .head) 0 ⌝ }
+{
+    q.queue[q.head] as usize
+}
+
+// Whether receiver i has still to get, so that a search ends there.
+fn wants(w: &Words, i: usize) -> bool
+    requires { ⌜ i < 64 ⌝ }
+    ensures { λ r. ⌜ r ≡ bit (now (w .entry) .takers) i ⌝ }
+{
+    crate::word::has(w.takers, i)
+}
+
+// The givers not yet reached whose transfer to receiver i is above zero.
+fn backward(q: &Seek, w: &Words, i: usize) -> u64
+    requires { ⌜ i < 64 ⌝ }
+    ensures { λ r. ⌜ ((k : ℕ) → bit r k ≡ (bit (getD (now (w .entry) .holders) i 0) k && not (bit (now (q .entry) .reached) k))) ⌝ }
+{
+    crate::word::except(w.holders[i], q.reached)
+}
+
+// Reaches the givers back from receiver i, who join the queue's end in rising number.
 pub(crate) fn back(q: &mut Seek, w: &Words, i: usize)
     requires room { ⌜ i < now w .n ⌝ }
     requires fitted { ⌜ Fitted (now w) ⌝ }
@@ -19,7 +45,7 @@ pub(crate) fn back(q: &mut Seek, w: &Words, i: usize)
     ensures sound { λ _. ⌜ Sound (now (w .entry) .n) (now (q .exit)) ⌝ }
     ensures still { λ _. ⌜ now (q .exit) .head ≡ now (q .entry) .head ⌝ }
 {
-    let mut new = Places(crate::word::except(w.holders[i], q.reached));
+    let mut new = Places(backward(q, w, i));
     while let Some(k) = new.next() {
         q.reached = crate::word::with(q.reached, k);
         q.via[k] = i as u8;
@@ -28,6 +54,7 @@ pub(crate) fn back(q: &mut Seek, w: &Words, i: usize)
     }
 }
 
+// Takes the receivers permitted from giver j in rising number, and answers the first that has still to get.
 pub(crate) fn visit(q: &mut Seek, w: &Words, j: usize) -> Option<usize>
     requires room { ⌜ j < now w .n ⌝ }
     requires fitted { ⌜ Fitted (now w) ⌝ }
@@ -41,7 +68,7 @@ pub(crate) fn visit(q: &mut Seek, w: &Words, j: usize) -> Option<usize>
     while let Some(i) = new.next() {
         q.seen = crate::word::with(q.seen, i);
         q.from[i] = j as u8;
-        if crate::word::has(w.takers, i) {
+        if wants(w, i) {
             return Some(i);
         }
         back(q, w, i);
@@ -49,6 +76,7 @@ pub(crate) fn visit(q: &mut Seek, w: &Words, j: usize) -> Option<usize>
     None
 }
 
+// A search that has reached the givers with something to give, queued in rising number.
 fn start(w: &Words) -> Seek
     requires fitted { ⌜ Fitted (now w) ⌝ }
     ensures stands { λ r. ⌜ model searching r ≡ untouched (tests (now (w .entry))) ⌝ }
@@ -73,6 +101,7 @@ fn start(w: &Words) -> Seek
     }
 }
 
+// Visits one giver after another from the queue's front, until a receiver is found or the queue is empty.
 pub(crate) fn search(w: &Words) -> Found
     requires fitted { ⌜ Fitted (now w) ⌝ }
     ensures stands { λ r. ⌜ model (ending (r .end)) (r .seek) ≡ search-all (tests (now (w .entry))) ⌝ }
@@ -81,7 +110,7 @@ pub(crate) fn search(w: &Words) -> Found
 {
     let mut q = start(w);
     while q.head < q.tail {
-        let j = q.queue[q.head] as usize;
+        let j = front(&q);
         q.head += 1;
         if let Some(i) = visit(&mut q, w, j) {
             return Found {

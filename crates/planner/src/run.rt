@@ -1,16 +1,36 @@
 ghost use mathlib.Core.Path.{_≡_};
 ghost use mathlib.Core.Bool.{true};
-ghost use Prim.Native.Nat.{ℕ, _<_};
+ghost use Prim.Native.Nat.{ℕ, _+_, _<_};
 ghost use Rattle.groups.specs.Sums.{Le};
 ghost use Rattle.flow.specs.Runs.{begin};
+ghost use Rattle.planner.specs.declared.answer.Answer.the-variants.{Blocked};
 ghost use Rattle.planner.specs.Answers.{posed, Ran};
 ghost use Rattle.planner.specs.Step.{InStep};
 ghost use Rattle.planner.specs.Tables.{row, values, stateOf};
 use crate::answer::Answer;
 use crate::hunt::search;
+use crate::state::Seek;
 use crate::state::Words;
 use crate::walk::step;
 use amounts::Amount;
+
+// The count of steps after one more.
+fn one_more(steps: usize) -> usize
+    requires { ⌜ steps < 258177 ⌝ }
+    ensures { λ r. ⌜ r ≡ 1 + steps ⌝ }
+{
+    steps + 1
+}
+
+// The answer of a search that ended nowhere: the givers whom it reached block the circle.
+fn blocked(steps: usize, q: &Seek) -> Answer
+    ensures { λ r. ⌜ r ≡ Blocked steps (now (q .entry) .reached) ⌝ }
+{
+    Answer::Blocked {
+        steps,
+        members: q.reached,
+    }
+}
 
 // One step after another, until the search finds no way or a step is refused.
 pub(crate) fn run<K: Amount>(
@@ -32,14 +52,11 @@ pub(crate) fn run<K: Amount>(
             if w.givers == 0 {
                 return Answer::Plan { steps };
             }
-            return Answer::Blocked {
-                steps,
-                members: found.seek.reached,
-            };
+            return blocked(steps, &found.seek);
         };
         if !step(&found.seek, w, transfers, to_give, to_get, z) {
             return Answer::Outgrown { steps };
         }
-        steps += 1;
+        steps = one_more(steps);
     }
 }

@@ -1,7 +1,7 @@
 ghost use mathlib.Core.Path.{_≡_};
 ghost use mathlib.Core.Bool.{true};
 ghost use Prim.Native.Nat.{_+_, _*_, _<_};
-ghost use lib.ListN.{set};
+ghost use lib.ListN.{length, set};
 ghost use Rattle.groups.specs.Sums.{above};
 ghost use Rattle.planner.specs.Step.{InStep};
 use crate::state::Words;
@@ -18,6 +18,14 @@ pub(crate) fn is_above<K: Amount>(amount: K) -> bool
         Ordering::Greater => true,
         _ => false,
     }
+}
+
+// Writes one amount of a table.
+fn write<K: Amount>(amounts: &mut [K], at: usize, amount: K)
+    requires { ⌜ at < length (now amounts) ⌝ }
+    ensures { λ _. ⌜ now (amounts .exit) ≡ set (now (amounts .entry)) at amount ⌝ }
+{
+    amounts[at] = amount;
 }
 
 // Writes the transfer from giver j to receiver i.
@@ -40,7 +48,7 @@ pub(crate) fn put_transfer<K: Amount>(
     ensures givers { λ _. ⌜ now (w .exit) .givers ≡ now (w .entry) .givers ⌝ }
     ensures kept { λ _. ⌜ InStep (K·Amount .kind) (now (w .exit)) (now (transfers .exit)) (now («to_give» .entry)) (now («to_get» .entry)) ⌝ }
 {
-    transfers[64 * j + i] = amount;
+    write(transfers, 64 * j + i, amount);
     w.holders[i] = word::put(w.holders[i], j, is_above(amount));
 }
 
@@ -61,7 +69,7 @@ pub(crate) fn put_give<K: Amount>(
     ensures rules { λ _. ⌜ now (w .exit) .permitted ≡ now (w .entry) .permitted ⌝ }
     ensures kept { λ _. ⌜ InStep (K·Amount .kind) (now (w .exit)) (now (transfers .entry)) (now («to_give» .exit)) (now («to_get» .entry)) ⌝ }
 {
-    to_give[j] = amount;
+    write(to_give, j, amount);
     w.givers = word::put(w.givers, j, is_above(amount));
 }
 
@@ -82,6 +90,6 @@ pub(crate) fn put_get<K: Amount>(
     ensures rules { λ _. ⌜ now (w .exit) .permitted ≡ now (w .entry) .permitted ⌝ }
     ensures kept { λ _. ⌜ InStep (K·Amount .kind) (now (w .exit)) (now (transfers .entry)) (now («to_give» .entry)) (now («to_get» .exit)) ⌝ }
 {
-    to_get[i] = amount;
+    write(to_get, i, amount);
     w.takers = word::put(w.takers, i, is_above(amount));
 }

@@ -10,7 +10,7 @@ use Rattle.planner.proofs.hunt.back.Needs as need
 
 pub loop-k-holds : need.loop-k-holds
 loop-k-holds c =
-    (backs-start (c .args .w .now) (c .args .q .now) (c .args .i) (c .except .result) (c .pre .fitted) (c .except .ensures), c .pre .sound, refl)
+    (backs-start (c .args .w .now) (c .args .q .now) (c .args .i) (c .backward .result) (c .pre .fitted) (c .backward .ensures), c .pre .sound, refl)
 
 pub index-q-q : need.index-q-q
 index-q-q c =

@@ -19,9 +19,9 @@ back-requires c κs = record {
   sound = noted-sound (c .args .w .now) (c .args .q .now) (c .loop-i .q) (c .args .j) (c .loop-i .new .0) (c .in-Some .i) (c .next .last .self .0) (c .pre .room) (c .loop-i .inv .1) (c .pre .fitted .size) (c .loop-i .inv .0) (c .in-Some .ensures tt) (c .with-q .result) (c .with-q .ensures);
 }
 
-pub returns-then-has : need.returns-then-has
-returns-then-has c = record {
-  stands = outs-found (c .args .w .now) (c .args .q .now) (c .loop-i .q) (c .args .j) (c .loop-i .new .0) (c .in-Some .i) (c .next .last .self .0) (c .pre .room) (c .loop-i .inv .1) (c .pre .fitted .size) (c .loop-i .inv .0) (c .in-Some .ensures tt) (c .with-q .result) (c .with-q .ensures) (sym (c .if-has .ensures tt));
+pub returns-then-wants : need.returns-then-wants
+returns-then-wants c = record {
+  stands = outs-found (c .args .w .now) (c .args .q .now) (c .loop-i .q) (c .args .j) (c .loop-i .new .0) (c .in-Some .i) (c .next .last .self .0) (c .pre .room) (c .loop-i .inv .1) (c .pre .fitted .size) (c .loop-i .inv .0) (c .in-Some .ensures tt) (c .with-q .result) (c .with-q .ensures) (sym (c .if-wants .ensures tt));
   sound = noted-sound (c .args .w .now) (c .args .q .now) (c .loop-i .q) (c .args .j) (c .loop-i .new .0) (c .in-Some .i) (c .next .last .self .0) (c .pre .room) (c .loop-i .inv .1) (c .pre .fitted .size) (c .loop-i .inv .0) (c .in-Some .ensures tt) (c .with-q .result) (c .with-q .ensures);
   still = c .loop-i .inv .2;
   member = outs-within (c .args .w .now) (c .args .q .now) (c .loop-i .q) (c .args .j) (c .loop-i .new .0) (c .in-Some .i) (c .next .last .self .0) (c .pre .room) (c .loop-i .inv .1) (c .pre .fitted .size) (c .loop-i .inv .0) (c .in-Some .ensures tt) (c .with-q .result) (c .with-q .ensures);
@@ -29,7 +29,7 @@ returns-then-has c = record {
 
 pub loop-i-again : need.loop-i-again
 loop-i-again c = (
-  outs-next (c .args .w .now) (c .args .q .now) (c .loop-i .q) (c .args .j) (c .loop-i .new .0) (c .in-Some .i) (c .next .last .self .0) (c .pre .room) (c .loop-i .inv .1) (c .pre .fitted .size) (c .loop-i .inv .0) (c .in-Some .ensures tt) (c .with-q .result) (c .with-q .ensures) (sym (c .if-has .ensures tt)) (c .back .last .q) (c .back .ensures .stands),
+  outs-next (c .args .w .now) (c .args .q .now) (c .loop-i .q) (c .args .j) (c .loop-i .new .0) (c .in-Some .i) (c .next .last .self .0) (c .pre .room) (c .loop-i .inv .1) (c .pre .fitted .size) (c .loop-i .inv .0) (c .in-Some .ensures tt) (c .with-q .result) (c .with-q .ensures) (sym (c .if-wants .ensures tt)) (c .back .last .q) (c .back .ensures .stands),
   c .back .ensures .sound,
   c .back .ensures .still ∙ c .loop-i .inv .2,
 )

@@ -5,12 +5,12 @@ use native.Mathlib.Omega.{arith}
 use borrow.Author.Needs.{needs}
 use Rattle.flow.proofs.Reached.{reached-start}
 use Rattle.flow.specs.Reached.{Reached}
-use Rattle.planner.specs.Answers.{posed}
+use Rattle.planner.specs.Answers.{posed, Ran}
 use Rattle.planner.specs.Model.{model, ending, Within}
 use Rattle.planner.specs.Ways.{trail, leastAlong}
 use Rattle.planner.specs.Tables.{row, stateOf}
 use Rattle.planner.proofs.Entries.{row-held}
-use Rattle.planner.proofs.Running.{limit-small, run-plans, run-blocks, run-outgrown, run-steps, apart}
+use Rattle.planner.proofs.Running.{Running, limit-small, run-plans, run-blocks, run-outgrown, run-steps, apart}
 use Rattle.planner.proofs.run.run.Needs as need
 
 pub turn-holds : need.turn-holds
@@ -35,7 +35,7 @@ pub returns-in-rest : need.returns-in-rest
 returns-in-rest g c =
     let small : c .search-found .result .seek .reached < 2 ^ 64 = search needs in
     let fits : c .turn .w .givers < 2 ^ 64 = search needs in
-    record { ran = run-blocks (g .K·Amount .kind) (row (g .K·Amount .kind) (c .args .to-give .now)) (c .args .w .now) (c .turn .w) (c .turn .steps) (c .turn .transfers) (c .turn .to-give) (c .turn .to-get) (c .turn .inv) (c .search-found .result .seek) (sym (ap (λ e. model (ending e) (c .search-found .result .seek)) (c .in-rest .is)) ∙ c .search-found .ensures .stands) (omega arith) fits small; values = (c .turn .inv .kept .x-values, c .turn .inv .kept .g-values, c .turn .inv .kept .r-values) }
+    record { ran = subst (λ a. Ran (g .K·Amount .kind) (posed (g .K·Amount .kind) (c .args .w .now) (row (g .K·Amount .kind) (c .args .to-give .now))) a (c .turn .transfers) (c .turn .to-give) (c .turn .to-get)) (sym (c .blocked .ensures)) (run-blocks (g .K·Amount .kind) (row (g .K·Amount .kind) (c .args .to-give .now)) (c .args .w .now) (c .turn .w) (c .turn .steps) (c .turn .transfers) (c .turn .to-give) (c .turn .to-get) (c .turn .inv) (c .search-found .result .seek) (sym (ap (λ e. model (ending e) (c .search-found .result .seek)) (c .in-rest .is)) ∙ c .search-found .ensures .stands) (omega arith) fits small); values = (c .turn .inv .kept .x-values, c .turn .inv .kept .g-values, c .turn .inv .kept .r-values) }
 
 pub step-requires : need.step-requires
 step-requires g c κs =
@@ -54,13 +54,14 @@ returns-then-not-step g c =
       values = (kept .x-values, kept .g-values, kept .r-values);
     }
 
-pub add-steps : need.add-steps
-add-steps g c =
+pub one-more-steps-requires : need.one-more-steps-requires
+one-more-steps-requires g c κs =
     let few = c .turn .inv .reached .few in
     let small = limit-small (posed (g .K·Amount .kind) (c .args .w .now) (row (g .K·Amount .kind) (c .args .to-give .now))) (c .pre .kept .fitted .size) in
     omega arith
 
 pub turn-again : need.turn-again
 turn-again g c =
-    run-steps (g .K·Amount .kind) (row (g .K·Amount .kind) (c .args .to-give .now)) (c .args .w .now) (c .turn .w) (c .turn .steps) (c .turn .transfers) (c .turn .to-give) (c .turn .to-get) (c .turn .inv) (c .search-found .result .seek) (c .in-Some .z) (sym (ap (λ e. model (ending e) (c .search-found .result .seek)) (c .in-Some .is)) ∙ c .search-found .ensures .stands) (g .K·Amount·met .lawful .ordered) (c .pre .least) true refl (c .if-not-step .ensures tt .fits)
-    (c .step .last .w) (c .step .last .transfers) (c .step .last .to-give) (c .step .last .to-get) (c .step .ensures .kept) (c .step .ensures .size) (c .step .ensures .rules) (c .if-not-step .ensures tt .done)
+    subst (λ s. Running (g .K·Amount .kind) (row (g .K·Amount .kind) (c .args .to-give .now)) (c .args .w .now) (c .step .last .w) s (c .step .last .transfers) (c .step .last .to-give) (c .step .last .to-get)) (omega (arith, c .one-more-steps .ensures))
+    (run-steps (g .K·Amount .kind) (row (g .K·Amount .kind) (c .args .to-give .now)) (c .args .w .now) (c .turn .w) (c .turn .steps) (c .turn .transfers) (c .turn .to-give) (c .turn .to-get) (c .turn .inv) (c .search-found .result .seek) (c .in-Some .z) (sym (ap (λ e. model (ending e) (c .search-found .result .seek)) (c .in-Some .is)) ∙ c .search-found .ensures .stands) (g .K·Amount·met .lawful .ordered) (c .pre .least) true refl (c .if-not-step .ensures tt .fits)
+    (c .step .last .w) (c .step .last .transfers) (c .step .last .to-give) (c .step .last .to-get) (c .step .ensures .kept) (c .step .ensures .size) (c .step .ensures .rules) (c .if-not-step .ensures tt .done))
