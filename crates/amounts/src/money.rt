@@ -11,6 +11,7 @@ use std::cmp::Ordering;
 const MOST: u64 = 1_000_000_000_000_000_000;
 
 // An amount of money in the smallest unit: 0 to 10^18.
+#[repr(C)]
 #[derive(Clone, Copy, PartialEq, Eq, Debug)]
 pub struct Money(pub u64);
 
