@@ -19,12 +19,12 @@ const SEED: u64 = 20_260_101;
 
 /// How many circles of any size the answers are compared on, and how many of each family are timed.
 const COMPARED: usize = 20_000;
-const TIMED: usize = 32;
+const TIMED: usize = 128;
 
 /// A batch goes over all circles of a family, again and again, for at least this long. The median
 /// batch counts.
 const BATCH: Duration = Duration::from_millis(4);
-const BATCHES: usize = 61;
+const BATCHES: usize = 41;
 
 /// What is printed of two contestants' times, where both take part.
 const RATIOS: [(&str, &str); 4] = [
@@ -100,7 +100,7 @@ fn main() {
         .iter()
         .filter_map(|(over, under)| place(over).zip(place(under)))
         .collect();
-    print!("{:<6} {:>3} {:>6} {:>6}", "family", "n", "plans", "steps");
+    print!("{:<6} {:>3} {:>7} {:>6}", "family", "n", "plans", "steps");
     for contestant in CONTESTANTS {
         print!(" {:>9}", contestant.name);
     }
@@ -128,7 +128,7 @@ fn main() {
         widest = widest.max(spread);
         let mean_steps = all_steps as f64 / TIMED as f64;
         print!(
-            "{:<6} {:>3} {:>6} {:>6.1}",
+            "{:<6} {:>3} {:>7} {:>6.1}",
             family.name,
             MEMBERS,
             format!("{plans}/{TIMED}"),

@@ -1,4 +1,5 @@
 pub mod Answers
+pub mod AtOnce
 pub mod Bound
 pub mod Counting
 pub mod Fronts

@@ -14,5 +14,6 @@ pub mod Outs
 pub mod Running
 pub mod Starts
 pub mod Stepped
+pub mod Straights
 pub mod Turns
 pub mod Walks

@@ -32,6 +32,7 @@ use Rattle.planner.specs.declared.answer.Answer.the-variants.{Plan, Blocked, O
 use Rattle.planner.specs.declared.state.Words.{Words}
 use Rattle.planner.specs.declared.state.Seek.{Seek}
 use Rattle.planner.specs.Answers.{wordOf, answerBy, posed, outcomeOf, Ran}
+use Rattle.planner.specs.Finds.{Leads}
 use Rattle.planner.specs.Model.{model, tests, ending}
 use Rattle.planner.specs.Step.{InStep}
 use Rattle.planner.specs.Tables.{row, table, stateOf}
@@ -117,14 +118,12 @@ module _ {V : Type 0} (k : Kind V) (weights : ℕ → k .group .Element) (w₀ :
           unsettled true e = absurd (omega (arith, bit-none 64 (w .givers) fits (λ j l. none e j (cases-lt j (w₀ .n)))))
 
     -- a way is found
-    module _ (q : Seek) (z : ℕ) (h : model (found z) q ≡ search-all (tests w)) where
+    module _ (q : Seek) (z : ℕ) (h : Leads w q z) where
       there : search-of (k .group) (posed k w₀ weights) (stateOf k xs gs rs) .ends ≡ found z
-      there = ap (λ r. r .ends) (looked (model (found z) q) h)
+      there = sym (ap (λ T. search-all T .ends) agree) ∙ h .ends
 
       same-way : wayTo (k .group) (posed k w₀ weights) (stateOf k xs gs rs) z ≡ trail w q z
-      same-way =
-          ap (λ r. trace (told (k .group) (posed k w₀ weights) (stateOf k xs gs rs)) (w₀ .n) r (r .from z) []) (looked (model (found z) q) h)
-          ∙ ap₂ (λ T m. trace T m (model (found z) q) (getD (q .from) z 0) []) (sym agree) (sym (p .size))
+      same-way = sym (ap₂ (λ T m. trace T m (search-all T) (search-all T .from z) []) agree (p .size)) ∙ h .way
 
       pub apart : (d : k .group .Element) → writableAlong k (trail w q z) (stateOf k xs gs rs) z d
           ≡ heldAlong (k .group) (k .held) d (trail w q z .first) (trail w q z .hops) z (table k xs)

@@ -63,7 +63,7 @@ module _ (w : Words) (queue : List ℕ) (tail v k u : ℕ) (f : Fitted w) (b : S
           subst (λ d. getD (set queue tail k) d 0 < w .n) (sym p) (subst (λ x. x < w .n) (sym (getD-set-same queue tail k 0 (omega (arith, starts-room)))) (acts .within))
       go (inr p) = subst (λ x. x < w .n) (sym (getD-set-other queue tail c k 0 p)) (h c (omega arith))
 
-zeros : (m k : ℕ) → getD {A = ℕ} (replicate m 0) k 0 ≡ 0
+pub zeros : (m k : ℕ) → getD {A = ℕ} (replicate m 0) k 0 ≡ 0
 zeros zero k = refl
 zeros (suc m) zero = refl
 zeros (suc m) (suc k) = zeros m k

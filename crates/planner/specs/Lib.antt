@@ -1,5 +1,6 @@
 pub mod Answers
 pub mod Calls
+pub mod Finds
 pub mod Model
 pub mod Step
 pub mod Tables

@@ -6,8 +6,10 @@ ghost use lib.ListN.{length, getD};
 ghost use Rattle.flow.specs.Search.{searching};
 ghost use Rattle.std.specs.Options.{Cases};
 ghost use Rattle.flow.specs.Search.{backs, outs, fresh as untouched, search-all};
+ghost use Rattle.planner.specs.Finds.{Finds, Straight};
 ghost use Rattle.planner.specs.Model.{model, tests, Sound, Fitted, ending, Within};
 use crate::state::Found;
+use crate::state::Link;
 use crate::state::Seek;
 use crate::state::Words;
 use crate::word::Places;
@@ -102,9 +104,9 @@ fn start(w: &Words) -> Seek
 }
 
 // Visits one giver after another from the queue's front, until a receiver is found or the queue is empty.
-pub(crate) fn search(w: &Words) -> Found
+fn search(w: &Words) -> Found
     requires fitted { ⌜ Fitted (now w) ⌝ }
-    ensures stands { λ r. ⌜ model (ending (r .end)) (r .seek) ≡ search-all (tests (now (w .entry))) ⌝ }
+    ensures finds { λ r. ⌜ Finds (now (w .entry)) (r .seek) (r .end) ⌝ }
     ensures sound { λ r. ⌜ Sound (now (w .entry) .n) (r .seek) ⌝ }
     ensures member { λ r. ⌜ Within (now (w .entry) .n) (r .end) ⌝ }
 {
@@ -120,4 +122,61 @@ pub(crate) fn search(w: &Words) -> Found
         }
     }
     Found { seek: q, end: None }
+}
+
+// The first giver with something to give, and the first receiver permitted from it that has still to get. Where
+// there are both, a search comes to this receiver in its first turn.
+fn at_once(w: &Words) -> Option<Link>
+    requires fitted { ⌜ Fitted (now w) ⌝ }
+    ensures { λ r. ⌜ Cases r (Unit {0}) (λ l. Straight (now (w .entry)) (l .giver) (l .receiver)) ⌝ }
+{
+    let mut starting = Places(w.givers);
+    let Some(j) = starting.next() else {
+        return None;
+    };
+    let mut wanting = Places(crate::word::both(w.permitted[j], w.takers));
+    let Some(i) = wanting.next() else {
+        return None;
+    };
+    Some(Link {
+        giver: j,
+        receiver: i,
+    })
+}
+
+// The way of one link.
+fn straight(w: &Words, link: Link) -> Found
+    requires fitted { ⌜ Fitted (now w) ⌝ }
+    requires link { ⌜ Straight (now w) (link .giver) (link .receiver) ⌝ }
+    ensures finds { λ r. ⌜ Finds (now (w .entry)) (r .seek) (r .end) ⌝ }
+    ensures sound { λ r. ⌜ Sound (now (w .entry) .n) (r .seek) ⌝ }
+    ensures member { λ r. ⌜ Within (now (w .entry) .n) (r .end) ⌝ }
+{
+    let mut from = [0; 64];
+    from[link.receiver] = link.giver as u8;
+    Found {
+        seek: Seek {
+            queue: [0; 64],
+            head: 0,
+            tail: 0,
+            reached: w.givers,
+            seen: 0,
+            from,
+            via: [0; 64],
+        },
+        end: Some(link.receiver),
+    }
+}
+
+// What the search of a step finds. It is searched for only where it is not found at once.
+pub(crate) fn find(w: &Words) -> Found
+    requires fitted { ⌜ Fitted (now w) ⌝ }
+    ensures finds { λ r. ⌜ Finds (now (w .entry)) (r .seek) (r .end) ⌝ }
+    ensures sound { λ r. ⌜ Sound (now (w .entry) .n) (r .seek) ⌝ }
+    ensures member { λ r. ⌜ Within (now (w .entry) .n) (r .end) ⌝ }
+{
+    match at_once(w) {
+        Some(link) => straight(w, link),
+        None => search(w),
+    }
 }

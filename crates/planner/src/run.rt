@@ -8,7 +8,7 @@ ghost use Rattle.planner.specs.Answers.{posed, Ran};
 ghost use Rattle.planner.specs.Step.{InStep};
 ghost use Rattle.planner.specs.Tables.{row, values, stateOf};
 use crate::answer::Answer;
-use crate::hunt::search;
+use crate::hunt::find;
 use crate::state::Seek;
 use crate::state::Words;
 use crate::walk::step;
@@ -47,7 +47,7 @@ pub(crate) fn run<K: Amount>(
 {
     let mut steps = 0;
     'turn: loop {
-        let found = search(w);
+        let found = find(w);
         let Some(z) = found.end else {
             if w.givers == 0 {
                 return Answer::Plan { steps };

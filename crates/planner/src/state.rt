@@ -24,3 +24,10 @@ pub(crate) struct Found {
     pub(crate) seek: Seek,
     pub(crate) end: Option<usize>,
 }
+
+// A giver and a receiver permitted from it.
+#[derive(Clone, Copy)]
+pub(crate) struct Link {
+    pub(crate) giver: usize,
+    pub(crate) receiver: usize,
+}

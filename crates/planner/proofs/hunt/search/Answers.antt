@@ -6,6 +6,7 @@ use Rattle.flow.specs.Search.{searching}
 use Rattle.flow.specs.Search.{turns, fresh, outs}
 use Rattle.planner.specs.Model.{model, tests}
 use Rattle.planner.proofs.Turns.{tail-most, turns-end, first-in, left, left-sound, turn-made, turn-found}
+use Rattle.planner.proofs.Straights.{search-leads}
 use Rattle.planner.proofs.hunt.search.Needs as need
 
 pub loop-q-holds : need.loop-q-holds
@@ -28,10 +29,10 @@ visit-requires c κs = record {
 
 pub returns-in-Some : need.returns-in-Some
 returns-in-Some c = record {
-  stands =
-      turn-found (c .args .w .now) (c .loop-q .q) (c .loop-q .inv .1) (c .loop-q-test .taken) (c .pre .fitted) (c .loop-q .inv .0) (c .in-Some .i) (c .visit .last .q)
+  finds =
+      search-leads (c .args .w .now) (c .visit .last .q) (c .in-Some .i) (turn-found (c .args .w .now) (c .loop-q .q) (c .loop-q .inv .1) (c .loop-q-test .taken) (c .pre .fitted) (c .loop-q .inv .0) (c .in-Some .i) (c .visit .last .q)
       (c .in-Some .ensures tt .stands
-      ∙ ap (λ j. outs (tests (c .args .w .now)) j (c .args .w .now .n) (model searching (left (c .args .w .now) (c .loop-q .q) (c .loop-q .inv .1) (c .loop-q-test .taken)))) (c .front-j .ensures));
+      ∙ ap (λ j. outs (tests (c .args .w .now)) j (c .args .w .now .n) (model searching (left (c .args .w .now) (c .loop-q .q) (c .loop-q .inv .1) (c .loop-q-test .taken)))) (c .front-j .ensures)));
   sound = c .in-Some .ensures tt .sound;
   member = c .in-Some .ensures tt .member;
 }
@@ -50,7 +51,7 @@ loop-q-again c = (
 
 pub returns : need.returns
 returns c = record {
-  stands = turns-end (c .args .w .now) (c .loop-q .q) (c .loop-q .inv .1) searching (c .pre .fitted) (c .loop-q-test .left) (c .loop-q .inv .0);
+  finds = turns-end (c .args .w .now) (c .loop-q .q) (c .loop-q .inv .1) searching (c .pre .fitted) (c .loop-q-test .left) (c .loop-q .inv .0);
   sound = c .loop-q .inv .1;
   member = tt;
 }
