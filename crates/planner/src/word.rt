@@ -3,6 +3,7 @@ ghost use mathlib.Core.Bool.{Bool, true, false, not, cond, _&&_};
 ghost use Prim.Native.Nat.{ℕ, _+_, _*_, _<_, _≤_, _^_, _-_};
 ghost use lib.Dec.{eqb, ltb};
 ghost use Rattle.std.specs.Options.{Cases};
+ghost use lib.Count.{trailingZeros};
 ghost use Rattle.words.specs.Words.{bit, Lowest};
 
 pub(crate) fn has(w: u64, k: usize) -> bool
@@ -47,6 +48,14 @@ pub(crate) fn first(n: usize) -> u64
     if n == 64 { u64::MAX } else { (1 << n) - 1 }
 }
 
+// the lowest place of a word, and 64 if it has none
+fn lowest(w: u64) -> usize
+    ensures { λ r. ⌜ r ≡ trailingZeros 64 w ⌝ }
+{
+    w.trailing_zeros() as usize
+}
+
+// The places of a word, taken in rising number.
 #[derive(Clone, Copy)]
 pub(crate) struct Places(pub(crate) u64);
 
@@ -57,7 +66,7 @@ impl Places {
         if self.0 == 0 {
             return None;
         }
-        let k = self.0.trailing_zeros() as usize;
+        let k = lowest(self.0);
         self.0 &= self.0 - 1;
         Some(k)
     }
