@@ -15,6 +15,7 @@ use Rattle.flow.specs.Flow.{Task, State, Closed}
 use Rattle.flow.specs.Levels.{within, met, At, MetAt}
 use Rattle.flow.specs.Routes.{Hop, Link, Route}
 use Rattle.flow.specs.Search.{Tests, searching, found, Search, Way, popped, outs, turn-at, turns, starters, fresh, search-all, trace}
+use Rattle.flow.specs.Outcomes.{wayTo}
 use Rattle.flow.specs.Told.{told, search-of}
 use Rattle.flow.proofs.Counting.{count-most}
 use Rattle.flow.proofs.Rounds.{met-found, within-zero, within-found, within-up, at-least, met-least, early}
@@ -248,11 +249,8 @@ module _ (G : Group) (t : Task (G .Element)) (s : State (G .Element)) where
               (link, w .1 .above, subst (λ c. Route G t s c j hs z) level way)
 
   -- the search ends with a shortest route to a receiver with something to get, or with a closed set
-  abbrev pub way-to : ℕ → Way
-  way-to z = trace (told G t s) (t .n) (search-of G t s) (search-of G t s .from z) []
-
   pub data Outcome : Type 0 where
-    route : (z : ℕ) → search-of G t s .ends ≡ found z → above G (s .r z) ≡ true → Route G t s 0 (way-to z .first) (way-to z .hops) z → Outcome
+    route : (z : ℕ) → search-of G t s .ends ≡ found z → above G (s .r z) ≡ true → Route G t s 0 (wayTo G t s z .first) (wayTo G t s z .hops) z → Outcome
     closed : search-of G t s .ends ≡ searching → Closed G t s (search-of G t s .reached) → Outcome
 
   pub searched : Outcome

@@ -15,5 +15,3 @@ pub mod Shortfall
 pub mod Steps
 pub mod Unrolled
 pub mod Visits
-pub mod Whole
-pub mod WorkedRuns

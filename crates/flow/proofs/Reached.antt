@@ -9,7 +9,7 @@ use Rattle.flow.specs.Flow.{Task, State, Inv, Closed}
 use Rattle.flow.specs.Routes.{augment, Route}
 use Rattle.flow.specs.Search.{Ends, searching, found}
 use Rattle.flow.specs.Told.{search-of}
-use Rattle.flow.specs.Runs.{begin, Run, started, stepped, next-at, state-after}
+use Rattle.flow.specs.Runs.{begin, Run, started, stepped}
 use Rattle.flow.specs.Outcomes.{stepHeld, planned, blocked, outgrown, limit, settled, wayTo, verdict, run, outcome, AllHeld}
 use Rattle.flow.specs.Reached.{Reached}
 use Rattle.flow.proofs.Bound.{begin-inv, bounded}
@@ -46,21 +46,6 @@ module _ (G : Group) (t : Task (G .Element)) (s : State (G .Element)) where
       go (route y p wants way) = absurd (apart (search-of G t s .ends) y e p)
       go (closed p set) = set
 
-  -- and the step along that route is the run's next
-  step-next : (z : ℕ) → search-of G t s .ends ≡ found z
-      → augment G (wayTo G t s z .first) (wayTo G t s z .hops) z s ≡ next-at G t (search-of G t s .ends) (search-of G t s) s
-  step-next z e = ap (λ d. next-at G t d (search-of G t s) s) (sym e)
-
-module _ (G : Group) (t : Task (G .Element)) where
-  start-after : begin G t ≡ state-after G t 0
-  unfolding state-after
-  start-after = refl
-
-  step-after : (c : ℕ) (s : State (G .Element)) → s ≡ state-after G t c → (z : ℕ) → search-of G t s .ends ≡ found z
-      → augment G (wayTo G t s z .first) (wayTo G t s z .hops) z s ≡ state-after G t (suc c)
-  unfolding state-after
-  step-after c s p z e = step-next G t s z e ∙ ap (λ u. next-at G t (search-of G t u .ends) (search-of G t u) u) p
-
 module _ (G : Group) (held : G .Element → Bool) (t : Task (G .Element)) where
   pub begin-held : ((j : ℕ) → j < t .n → held (t .w j) ≡ true) → held (G .nil) ≡ true → AllHeld G held t (begin G t)
   begin-held weights zero-held = record { x-held = λ j i lj li. zero-held; g-held = weights; r-held = weights }
@@ -93,7 +78,6 @@ module _ (G : Group) (L : Ordered G) (held : G .Element → Bool) (t : Task (G .
   reached-start weights zero-held =
       record {
         ran = started;
-        after = start-after G t;
         kept = begin-held G held t weights zero-held;
         inv = begin-inv G L t least;
         few = omega arith;
@@ -106,7 +90,6 @@ module _ (G : Group) (L : Ordered G) (held : G .Element → Bool) (t : Task (G .
   reached-step c s here z e h =
       record {
         ran = run′;
-        after = step-after G t c s (here .after) z e;
         kept = step-kept G held t s (wayTo G t s z .first) (wayTo G t s z .hops) z (f .1) (here .kept) h;
         inv = within .0;
         few = within .1;

@@ -7,4 +7,3 @@ pub mod Routes
 pub mod Runs
 pub mod Search
 pub mod Told
-pub mod Worked

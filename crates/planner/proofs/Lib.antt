@@ -17,3 +17,4 @@ pub mod Stepped
 pub mod Straights
 pub mod Turns
 pub mod Walks
+pub mod WorkedRuns

@@ -5,3 +5,4 @@ pub mod Model
 pub mod Step
 pub mod Tables
 pub mod Ways
+pub mod Worked

@@ -1,7 +1,7 @@
 ghost use mathlib.Core.Path.{_≡_};
 ghost use Prim.Native.Nat.{_+_};
 ghost use lib.ListN.{length};
-ghost use Rattle.flow.specs.Worked.{moneyCases, driftCases, WorkedRuns};
+ghost use Rattle.planner.specs.Worked.{moneyCases, driftCases, WorkedRuns};
 
 // How many runs were worked out by hand, each of which the definition of the run gives: its steps, its end
 // and every transfer.

@@ -1,5 +1,5 @@
 use mathlib.Core.Path.{refl}
-use Rattle.flow.proofs.WorkedRuns.{worked-runs}
+use Rattle.planner.proofs.WorkedRuns.{worked-runs}
 use Rattle.planner.proofs.worked.proved_runs.Needs as need
 
 pub returns : need.returns
