@@ -1,4 +1,6 @@
 // Amounts: what a kind of amount is, and the kinds money and drift.
+#![tactic(auto)]
+
 mod amount;
 mod drift;
 mod money;

@@ -1,4 +1,6 @@
 // A worked report on a circle, from its first admission to its outlook.
+#![tactic(auto)]
+
 use anyhow::anyhow;
 
 mod circle;

@@ -1,4 +1,6 @@
 // Tontine circles: members, bars, plans and the outlook.
+#![tactic(auto)]
+
 mod admission;
 mod ask;
 mod bars;

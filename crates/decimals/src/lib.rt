@@ -1,4 +1,6 @@
 // Texts and numbers in decimal digits, written into a caller's buffer.
+#![tactic(auto)]
+
 mod digits;
 mod spelling;
 mod texts;

@@ -1,1 +1,2 @@
 // Ordered groups: what amounts stand for. Definitions and lemmas, and no code.
+#![tactic(auto)]

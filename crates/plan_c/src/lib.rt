@@ -1,4 +1,6 @@
 // The plan call for money, for C and Rust to link. A slice is passed as a pointer and then a length.
+#![tactic(auto)]
+
 ghost use Rattle.std.specs.Prelude.{◌≡◌};
 ghost use Rattle.plan_c.specs.Numbers.{numbers, Called};
 

@@ -1,4 +1,6 @@
 // The general plan call, for any kind of amount.
+#![tactic(auto)]
+
 mod answer;
 mod call;
 mod checks;

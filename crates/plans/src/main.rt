@@ -1,4 +1,6 @@
 // Plans a table of small circles and a few large ones, and prints what each gives.
+#![tactic(auto)]
+
 mod circles;
 
 use amounts::{Amount, Drift, Money};

@@ -1,5 +1,7 @@
 // Mortality tables: rows by age, dated by a base year and a valuation year, and the odds of an age
 // at valuation with their yearly change.
+#![tactic(auto)]
+
 mod dated;
 mod falls;
 mod row;

@@ -1,4 +1,6 @@
 // Sets of members as 64-bit words, member k at place k, and loops over their places in rising number.
+#![tactic(auto)]
+
 mod places;
 mod word;
 
