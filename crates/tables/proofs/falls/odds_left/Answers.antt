@@ -14,9 +14,9 @@ overflow-sub-result c =
 
 pub returns : goal.returns
 returns c =
-    let value : c.args.odds - c.fall-of.result ≡ odds_left c.args.fall c.args.odds = ap (λ n. c.args.odds - n) c.fall-of.ensures in
+    let value : c.args.odds - c.fall_of.result ≡ odds_left c.args.fall c.args.odds = ap (λ n. c.args.odds - n) c.fall_of.ensures in
     record {
       value = value;
       fits = subst (λ n. odds_fit n ≡ true) (sym value) (left_fits c.args.fall c.requires.1 c.args.odds c.requires.0);
-      year-more = λ first years e. value ∙ rw add-one (ap (odds_left c.args.fall) e);
+      year_more = λ first years e. value ∙ rw add-one (ap (odds_left c.args.fall) e);
     }

@@ -9,14 +9,14 @@ use Rattle.tables.proofs.Valuing.{valued}
 use Rattle.tables.proofs.falls.rates_after.Goals as goal
 
 -- the fall is below a million
-few : (c : goal.After-fall-of-fall) → c.fall-of-fall.result < 1000000
+few : (c : goal.After-fall_of-fall) → c.fall_of-fall.result < 1000000
 few c =
-    below c.fall-of-fall.result (fall_of c.args.row.fall odds) c.fall-of-fall.ensures
-    (fall_within c.args.row.fall (and_parts _ _ c.requires).1 odds c.odds-after-odds.ensures.fits)
-    (odds_high odds c.odds-after-odds.ensures.fits)
+    below c.fall_of-fall.result (fall_of c.args.row.fall odds) c.fall_of-fall.ensures
+    (fall_within c.args.row.fall (and_parts _ _ c.requires).1 odds c.odds_after-odds.ensures.fits)
+    (odds_high odds c.odds_after-odds.ensures.fits)
   where
     odds : ℕ
-    odds = c.odds-after-odds.result
+    odds = c.odds_after-odds.result
 
     below : (fall other : ℕ) → fall ≡ other → other < odds → odds ≤ 999999 → fall < 1000000
     below fall other e h m = omega arith
@@ -33,7 +33,7 @@ overflow-sub-result c = let h = few c in omega (arith, ints)
 
 pub returns : goal.returns
 returns c =
-    let odds = c.odds-after-odds.ensures.value in
-    let change = negated c.fall-of-fall.result (few c) ∙ ap (λ n. neg_ℤ (pos n)) (c.fall-of-fall.ensures ∙ ap (fall_of c.args.row.fall) odds) in
+    let odds = c.odds_after-odds.ensures.value in
+    let change = negated c.fall_of-fall.result (few c) ∙ ap (λ n. neg_ℤ (pos n)) (c.fall_of-fall.ensures ∙ ap (fall_of c.args.row.fall) odds) in
     let value = ap₂ (λ (o : ℕ) (z : ℤ). record { odds = o; change = z }) odds change in
     record { value = value; meaning = subst (Valued c.args.row c.args.years) (sym value) (valued c.args.row c.requires c.args.years) }
