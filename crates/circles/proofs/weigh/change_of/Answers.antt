@@ -3,8 +3,8 @@ use Rattle.std.proofs.lemmas.Int.{to_z-of_z}
 use Rattle.circles.proofs.Products.{change_low, change_high, product_fits, factors}
 use Rattle.circles.proofs.weigh.change_of.Goals as goal
 
-pub overflow-mul-result : goal.overflow-mul-result
-overflow-mul-result c =
+pub overflow_mul-result : goal.overflow_mul-result
+overflow_mul-result c =
     let m = c.args.member in
     let low = change_low m.rates c.requires.rates in
     let high = change_high m.rates c.requires.rates in

@@ -15,8 +15,8 @@ bounds-q-q c =
     backs_room c.args.w.now c.args.q.now c.loop-k.q c.args.i c.loop-k.new.0 c.in-Some.k c.next.new.self.0
     c.requires.fitted c.requires.room c.loop-k.invariant.1 c.loop-k.invariant.0 c.in-Some.ensures
 
-pub overflow-add-q : goal.overflow-add-q
-overflow-add-q c =
+pub overflow_add-q : goal.overflow_add-q
+overflow_add-q c =
     let h = backs_room c.args.w.now c.args.q.now c.loop-k.q c.args.i c.loop-k.new.0 c.in-Some.k c.next.new.self.0
     c.requires.fitted c.requires.room c.loop-k.invariant.1 c.loop-k.invariant.0 c.in-Some.ensures in
     search rules

@@ -14,8 +14,8 @@ loop-q-init c =
 pub front-j-requires : goal.front-j-requires
 front-j-requires c = omega (arith, tail_most c.args.w.now c.loop-q.q c.loop-q.invariant.1, c.requires.fitted.size)
 
-pub overflow-add-q : goal.overflow-add-q
-overflow-add-q c = let h = tail_most c.args.w.now c.loop-q.q c.loop-q.invariant.1 in search rules
+pub overflow_add-q : goal.overflow_add-q
+overflow_add-q c = let h = tail_most c.args.w.now c.loop-q.q c.loop-q.invariant.1 in search rules
 
 pub visit-requires : goal.visit-requires
 visit-requires c = record {

@@ -4,9 +4,9 @@ use Rattle.tables.specs.Ranges.{odds_fit}
 use Rattle.tables.proofs.Falling.{fall_within, left_fits}
 use Rattle.tables.proofs.falls.odds_left.Goals as goal
 
-pub overflow-sub-result : goal.overflow-sub-result
-overflow-sub-result c =
-    within c.fall-of.result (fall_of c.args.fall c.args.odds) c.fall-of.ensures
+pub overflow_sub-result : goal.overflow_sub-result
+overflow_sub-result c =
+    within c.fall_of.result (fall_of c.args.fall c.args.odds) c.fall_of.ensures
     (fall_within c.args.fall c.requires.1 c.args.odds c.requires.0)
   where
     within : (fall other : ℕ) → fall ≡ other → other < c.args.odds → fall ≤ c.args.odds

@@ -25,11 +25,11 @@ few c =
 negated : (n : ℕ) → n < 1000000 → to_z w32 (of_z w32 (pos 0 -ℤ to_z w32 n)) ≡ neg_ℤ (pos n)
 negated n h = omega (arith, ints)
 
-pub overflow-cast-result : goal.overflow-cast-result
-overflow-cast-result c = let h = few c in omega (arith, ints)
+pub overflow_cast-result : goal.overflow_cast-result
+overflow_cast-result c = let h = few c in omega (arith, ints)
 
-pub overflow-sub-result : goal.overflow-sub-result
-overflow-sub-result c = let h = few c in omega (arith, ints)
+pub overflow_sub-result : goal.overflow_sub-result
+overflow_sub-result c = let h = few c in omega (arith, ints)
 
 pub returns : goal.returns
 returns c =

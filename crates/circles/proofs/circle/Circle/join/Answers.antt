@@ -4,5 +4,5 @@ use Rattle.circles.proofs.Ghost.{is}
 use Rattle.circles.proofs.Keeps.{admit_sound}
 use Rattle.circles.proofs.circle.Circle.join.Goals as goal
 
-pub invariant-of-self : goal.invariant-of-self
-invariant-of-self c = subst Sound (sym c.admit.ensures) (admit_sound c.args.self.now.state c.args.stake c.args.rates (is c.args.self.now) c.requires)
+pub invariant_of-self : goal.invariant_of-self
+invariant_of-self c = subst Sound (sym c.admit.ensures) (admit_sound c.args.self.now.state c.args.stake c.args.rates (is c.args.self.now) c.requires)

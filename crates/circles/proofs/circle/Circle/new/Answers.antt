@@ -1,5 +1,5 @@
 use Rattle.circles.proofs.Keeps.{open_kept}
 use Rattle.circles.proofs.circle.Circle.new.Goals as goal
 
-pub invariant-of-result : goal.invariant-of-result
-invariant-of-result c = open_kept c.open.ensures
+pub invariant_of-result : goal.invariant_of-result
+invariant_of-result c = open_kept c.open.ensures

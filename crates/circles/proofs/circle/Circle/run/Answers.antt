@@ -5,5 +5,5 @@ use Rattle.circles.proofs.circle.Circle.run.Goals as goal
 pub run-plan-requires : goal.run-plan-requires
 run-plan-requires c = record { sound = is c.args.self.now; some = plan_some c.args.self.now.state.members.count c.requires }
 
-pub invariant-of-self : goal.invariant-of-self
-invariant-of-self c = c.run-plan.ensures.sound
+pub invariant_of-self : goal.invariant_of-self
+invariant_of-self c = c.run-plan.ensures.sound
