@@ -5,5 +5,5 @@ use Rattle.planner.proofs.call.start.Given as goal
 
 abbrev pub invariant-loop-j : goal.invariant-loop-j
 invariant-loop-j g l =
-    InStep g.K.Amount.kind l.w l.transfers l.to-give l.to-get × (l.w.n ≡ l.n) × (l.w.permitted ≡ l.initial.w.permitted)
-    × Weighed g.K.Amount.kind l.j l.weights l.to-give × Weighed g.K.Amount.kind l.j l.weights l.to-get
+    InStep g.K.Amount.kind l.w l.transfers l.to_give l.to_get × (l.w.n ≡ l.n) × (l.w.permitted ≡ l.initial.w.permitted)
+    × Weighed g.K.Amount.kind l.j l.weights l.to_give × Weighed g.K.Amount.kind l.j l.weights l.to_get

@@ -2,18 +2,18 @@ use Rattle.std.proofs.Common.{sym}
 use Rattle.amounts.specs.DriftLaws.{subtracted, stands, unheld}
 use Rattle.amounts.proofs.drift.DriftAmount.difference.Goals as goal
 
-pub returns-then-is-value : goal.returns-then-is-value
-returns-then-is-value c =
+pub returns-then-is_value : goal.returns-then-is_value
+returns-then-is_value c =
     let a = c.args.self in
     let b = c.args.other in
-    let p = sym c.if-not-is-value.ensures in
-    let q = sym c.if-not-is-value-2.ensures in
-    stands a b p q _ _ (subtracted a b p q c.if-self-other.false) (sym c.if-is-value.ensures)
+    let p = sym c.if-not-is_value.ensures in
+    let q = sym c.if-not-is_value-2.ensures in
+    stands a b p q _ _ (subtracted a b p q c.if-self-other.false) (sym c.if-is_value.ensures)
 
-pub returns-else-is-value : goal.returns-else-is-value
-returns-else-is-value c =
+pub returns-else-is_value : goal.returns-else-is_value
+returns-else-is_value c =
     let a = c.args.self in
     let b = c.args.other in
-    let p = sym c.if-not-is-value.ensures in
-    let q = sym c.if-not-is-value-2.ensures in
-    unheld a b p q _ _ (subtracted a b p q c.if-self-other.false) (sym c.if-is-value.ensures)
+    let p = sym c.if-not-is_value.ensures in
+    let q = sym c.if-not-is_value-2.ensures in
+    unheld a b p q _ _ (subtracted a b p q c.if-self-other.false) (sym c.if-is_value.ensures)

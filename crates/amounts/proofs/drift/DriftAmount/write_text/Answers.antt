@@ -30,14 +30,14 @@ module _ (buffer weight change : List ℕ) (room : length (weight ++ (32 ∷ cha
 
 pub unwrap-weight-requires : goal.unwrap-weight-requires
 unwrap-weight-requires c =
-    taken c.args.buffer.now [] _ 0 (decimal c.args.self.weight) _ _ (begun c.args.buffer.now) c.put-decimal.ensures
+    taken c.args.buffer.now [] _ 0 (decimal c.args.self.weight) _ _ (begun c.args.buffer.now) c.put_decimal.ensures
     (one-room _ (decimal c.args.self.weight) (signed_decimal c.args.self.change) c.requires.room)
 
 pub unwrap-space-requires : goal.unwrap-space-requires
 unwrap-space-requires c =
     let weight = decimal c.args.self.weight in
     let change = signed_decimal c.args.self.change in
-    let o = first c.args.buffer.now weight change c.requires.room _ _ _ c.put-decimal.ensures c.unwrap-weight.ensures in
+    let o = first c.args.buffer.now weight change c.requires.room _ _ _ c.put_decimal.ensures c.unwrap-weight.ensures in
     taken _ _ _ _ _ _ _ o c.put.ensures (two-room c.args.buffer.now weight change c.requires.room)
 
 pub unwrap-requires : goal.unwrap-requires
@@ -45,17 +45,17 @@ unwrap-requires c =
     let weight = decimal c.args.self.weight in
     let change = signed_decimal c.args.self.change in
     let f : SFits w64 c.args.self.change = search rules in
-    let o = first c.args.buffer.now weight change c.requires.room _ _ _ c.put-decimal.ensures c.unwrap-weight.ensures in
+    let o = first c.args.buffer.now weight change c.requires.room _ _ _ c.put_decimal.ensures c.unwrap-weight.ensures in
     let t = second c.args.buffer.now weight change c.requires.room _ _ o _ _ _ c.put.ensures c.unwrap-space.ensures in
-    taken _ _ _ _ change _ _ t (subst (λ z. Puts c.put.new.buffer c.unwrap-space.result (signed_decimal z) c.put-signed.result c.put-signed.new.buffer) (to_z-of_z w64 c.args.self.change f) c.put-signed.ensures) (all_room c.args.buffer.now weight change c.requires.room)
+    taken _ _ _ _ change _ _ t (subst (λ z. Puts c.put.new.buffer c.unwrap-space.result (signed_decimal z) c.put_signed.result c.put_signed.new.buffer) (to_z-of_z w64 c.args.self.change f) c.put_signed.ensures) (all_room c.args.buffer.now weight change c.requires.room)
 
 pub returns : goal.returns
 returns c =
     let weight = decimal c.args.self.weight in
     let change = signed_decimal c.args.self.change in
     let f : SFits w64 c.args.self.change = search rules in
-    let o = first c.args.buffer.now weight change c.requires.room _ _ _ c.put-decimal.ensures c.unwrap-weight.ensures in
+    let o = first c.args.buffer.now weight change c.requires.room _ _ _ c.put_decimal.ensures c.unwrap-weight.ensures in
     let t = second c.args.buffer.now weight change c.requires.room _ _ o _ _ _ c.put.ensures c.unwrap-space.ensures in
-    let w = continued _ _ _ _ change _ _ t (subst (λ z. Puts c.put.new.buffer c.unwrap-space.result (signed_decimal z) c.put-signed.result c.put-signed.new.buffer) (to_z-of_z w64 c.args.self.change f) c.put-signed.ensures) (all_room c.args.buffer.now weight change c.requires.room) _ c.unwrap.ensures in
+    let w = continued _ _ _ _ change _ _ t (subst (λ z. Puts c.put.new.buffer c.unwrap-space.result (signed_decimal z) c.put_signed.result c.put_signed.new.buffer) (to_z-of_z w64 c.args.self.change f) c.put_signed.ensures) (all_room c.args.buffer.now weight change c.requires.room) _ c.unwrap.ensures in
     let same = append_assoc weight (32 ∷ []) change in
     record { size = w.place ∙ ap length same; bytes = w.bytes ∙ ap (λ t. over t c.args.buffer.now) same }

@@ -6,4 +6,4 @@ use Rattle.circles.proofs.circle.Circle.put_bar.Goals as goal
 
 pub invariant_of-self : goal.invariant_of-self
 invariant_of-self c =
-    subst Sound (sym c.put-bar.ensures) (bar_sound c.args.self.now.state c.args.j c.args.i c.args.on c.requires.giver (is c.args.self.now))
+    subst Sound (sym c.put_bar.ensures) (bar_sound c.args.self.now.state c.args.j c.args.i c.args.on c.requires.giver (is c.args.self.now))

@@ -2,8 +2,8 @@ use Rattle.circles.proofs.Ghost.{is}
 use Rattle.circles.proofs.Keeps.{plan_some}
 use Rattle.circles.proofs.circle.Circle.run.Goals as goal
 
-pub run-plan-requires : goal.run-plan-requires
-run-plan-requires c = record { sound = is c.args.self.now; some = plan_some c.args.self.now.state.members.count c.requires }
+pub run_plan-requires : goal.run_plan-requires
+run_plan-requires c = record { sound = is c.args.self.now; some = plan_some c.args.self.now.state.members.count c.requires }
 
 pub invariant_of-self : goal.invariant_of-self
-invariant_of-self c = c.run-plan.ensures.sound
+invariant_of-self c = c.run_plan.ensures.sound

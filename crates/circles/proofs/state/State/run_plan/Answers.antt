@@ -9,8 +9,8 @@ use Rattle.circles.proofs.Planning.{planned_settled, settled_sound, settled_mean
 use Rattle.circles.proofs.Weights.{balance_high, weights_all_fit, money_fits, money_beyond}
 use Rattle.circles.proofs.state.State.run_plan.Goals as goal
 
-pub money-weights-weights-requires : goal.money-weights-weights-requires
-money-weights-weights-requires c =
+pub money_weights-weights-requires : goal.money_weights-weights-requires
+money_weights-weights-requires c =
     let s = c.args.self.now in
     let h = manned s c.requires.sound in
     record { size = h.size; room = h.room; balances = balance_high s.members s.total h; rates = h.rated }
@@ -19,7 +19,7 @@ pub ask-answer-requires : goal.ask-answer-requires
 ask-answer-requires c =
     let s = c.args.self.now in
     let h = manned s c.requires.sound in
-    let ws = c.money-weights-weights in
+    let ws = c.money_weights-weights in
     record {
       size = h.size;
       some = c.requires.some;
@@ -38,10 +38,10 @@ pub returns : goal.returns
 returns c =
     let s = c.args.self.now in
     let h = manned s c.requires.sound in
-    let ws = c.money-weights-weights in
+    let ws = c.money_weights-weights in
     let a = c.ask-answer.result in
     let xs = c.ask-answer.new.transfers in
-    let gs = c.ask-answer.new.to-give in
+    let gs = c.ask-answer.new.to_give in
     let rs = c.ask-answer.new.to_get in
     let size : length xs ≡ 4096 = omega (arith, c.ask-answer.auto.transfers, c.requires.sound.0.1) in
     let P = posed_by_members money money_of nothing s.members ws.result ws.ensures.size h.room ws.ensures.weights (money_beyond s.members s.total h) a xs gs rs c.ask-answer.ensures in
