@@ -35,7 +35,7 @@ returns c =
     record {
       stands =
           sweep_ends (back_test (tests c.args.w.now) c.args.i) (joined c.args.i) c.args.w.now.n (model searching c.args.q.now) (model searching c.loop-k.q)
-          (subst (λ v. Backing c.args.w.now c.args.i c.args.q.now v c.loop-k.q) c.in-default.ensures c.loop-k.invariant.0);
+          (subst (λ v. Backing c.args.w.now c.args.i c.args.q.now v c.loop-k.q) c.in_default.ensures c.loop-k.invariant.0);
       sound = c.loop-k.invariant.1;
       still = c.loop-k.invariant.2;
     }

@@ -36,14 +36,14 @@ returns-in-Some c = record {
 
 pub loop-q-smaller : goal.loop-q-smaller
 loop-q-smaller c =
-    omega (arith, tail_most c.args.w.now c.loop-q.q c.loop-q.invariant.1, c.in-default.ensures.still, c.loop-q-test.true)
+    omega (arith, tail_most c.args.w.now c.loop-q.q c.loop-q.invariant.1, c.in_default.ensures.still, c.loop-q-test.true)
 
 pub loop-q-preserved : goal.loop-q-preserved
 loop-q-preserved c = (
   turn_made c.args.w.now c.loop-q.q c.loop-q.invariant.1 c.loop-q-test.true c.requires.fitted c.loop-q.invariant.0 (model searching c.visit.new.q)
-      (c.in-default.ensures.stands ∙ ap (λ j. outs (tests c.args.w.now) j c.args.w.now.n (model searching (left c.args.w.now c.loop-q.q c.loop-q.invariant.1 c.loop-q-test.true))) c.front-j.ensures)
-      ∙ sym (ap (λ h. turns (tests c.args.w.now) h (fresh (tests c.args.w.now))) c.in-default.ensures.still),
-  c.in-default.ensures.sound,
+      (c.in_default.ensures.stands ∙ ap (λ j. outs (tests c.args.w.now) j c.args.w.now.n (model searching (left c.args.w.now c.loop-q.q c.loop-q.invariant.1 c.loop-q-test.true))) c.front-j.ensures)
+      ∙ sym (ap (λ h. turns (tests c.args.w.now) h (fresh (tests c.args.w.now))) c.in_default.ensures.still),
+  c.in_default.ensures.sound,
 )
 
 pub returns : goal.returns

@@ -27,7 +27,7 @@ loop-k-preserved c = (
 
 pub returns : goal.returns
 returns c =
-    let b = subst (λ v. Starting c.args.w.now v (take c.loop-k.tail c.loop-k.queue)) c.in-default.ensures c.loop-k.invariant.0 in
+    let b = subst (λ v. Starting c.args.w.now v (take c.loop-k.tail c.loop-k.queue)) c.in_default.ensures c.loop-k.invariant.0 in
     record {
       stands = begun_model c.args.w.now c.loop-k.queue c.loop-k.tail b c.loop-k.invariant.1 c.loop-k.invariant.2;
       sound = begun_sound c.args.w.now c.loop-k.queue c.loop-k.tail b c.loop-k.invariant.1 c.loop-k.invariant.2 c.loop-k.invariant.3;

@@ -37,7 +37,7 @@ returns c =
     record {
       stands =
           sweep_ends (out_test (tests c.args.w.now) c.args.j) (out_act (tests c.args.w.now) c.args.j) c.args.w.now.n (model searching c.args.q.now) (model searching c.loop-i.q)
-          (subst (λ v. Outing c.args.w.now c.args.j c.args.q.now v c.loop-i.q) c.in-default.ensures c.loop-i.invariant.0);
+          (subst (λ v. Outing c.args.w.now c.args.j c.args.q.now v c.loop-i.q) c.in_default.ensures c.loop-i.invariant.0);
       sound = c.loop-i.invariant.1;
       still = c.loop-i.invariant.2;
       member = tt;

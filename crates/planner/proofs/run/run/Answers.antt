@@ -26,13 +26,13 @@ turn-init g c =
     }
 
 pub returns-then-w-eq0 : goal.returns-then-w-eq0
-returns-then-w-eq0 g c = record { ran = run_plans g.K.Amount.kind (row g.K.Amount.kind c.args.to_give.now) c.args.w.now c.turn.w c.turn.steps c.turn.transfers c.turn.to_give c.turn.to_get c.turn.invariant c.find-found.result.seek (subst (Finds c.turn.w c.find-found.result.seek) c.in-default.is c.find-found.ensures.finds) c.if-w-eq0.true; values = (c.turn.invariant.kept.x_values, c.turn.invariant.kept.g_values, c.turn.invariant.kept.r_values) }
+returns-then-w-eq0 g c = record { ran = run_plans g.K.Amount.kind (row g.K.Amount.kind c.args.to_give.now) c.args.w.now c.turn.w c.turn.steps c.turn.transfers c.turn.to_give c.turn.to_get c.turn.invariant c.find-found.result.seek (subst (Finds c.turn.w c.find-found.result.seek) c.in_default.is c.find-found.ensures.finds) c.if-w-eq0.true; values = (c.turn.invariant.kept.x_values, c.turn.invariant.kept.g_values, c.turn.invariant.kept.r_values) }
 
-pub returns-in-default : goal.returns-in-default
-returns-in-default g c =
+pub returns-in_default : goal.returns-in_default
+returns-in_default g c =
     let small : c.find-found.result.seek.reached < 2 ^ 64 = search rules in
     let fits : c.turn.w.givers < 2 ^ 64 = search rules in
-    record { ran = subst (λ a. Ran g.K.Amount.kind (posed g.K.Amount.kind c.args.w.now (row g.K.Amount.kind c.args.to_give.now)) a c.turn.transfers c.turn.to_give c.turn.to_get) (sym c.blocked.ensures) (run_blocks g.K.Amount.kind (row g.K.Amount.kind c.args.to_give.now) c.args.w.now c.turn.w c.turn.steps c.turn.transfers c.turn.to_give c.turn.to_get c.turn.invariant c.find-found.result.seek (subst (Finds c.turn.w c.find-found.result.seek) c.in-default.is c.find-found.ensures.finds) (omega arith) fits small); values = (c.turn.invariant.kept.x_values, c.turn.invariant.kept.g_values, c.turn.invariant.kept.r_values) }
+    record { ran = subst (λ a. Ran g.K.Amount.kind (posed g.K.Amount.kind c.args.w.now (row g.K.Amount.kind c.args.to_give.now)) a c.turn.transfers c.turn.to_give c.turn.to_get) (sym c.blocked.ensures) (run_blocks g.K.Amount.kind (row g.K.Amount.kind c.args.to_give.now) c.args.w.now c.turn.w c.turn.steps c.turn.transfers c.turn.to_give c.turn.to_get c.turn.invariant c.find-found.result.seek (subst (Finds c.turn.w c.find-found.result.seek) c.in_default.is c.find-found.ensures.finds) (omega arith) fits small); values = (c.turn.invariant.kept.x_values, c.turn.invariant.kept.g_values, c.turn.invariant.kept.r_values) }
 
 pub step-requires : goal.step-requires
 step-requires g c =

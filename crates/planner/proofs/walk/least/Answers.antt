@@ -26,7 +26,7 @@ returns-then-has g c =
       value = less.0;
       least =
           least_end k c.args.w.now (state_of k c.args.transfers.now c.args.to_give.now c.args.to_get.now) c.args.q.now c.args.z j c.loop-turn.invariant.hops c.loop-turn.d c.index-to_give-j.result c.lesser.result
-          (on_found c.args.w.now c.args.q.now c.args.z c.loop-turn.-turn j c.loop-turn.invariant.hops c.loop-turn-test.true (sym c.if-has.ensures) c.loop-turn.invariant.on)
+          (on_found c.args.w.now c.args.q.now c.args.z c.loop-turn._turn j c.loop-turn.invariant.hops c.loop-turn-test.true (sym c.if-has.ensures) c.loop-turn.invariant.on)
           c.loop-turn.invariant.value has.1 less.1;
     }
 
@@ -36,7 +36,7 @@ loop-turn-preserved g c =
     let j = c.loop-turn.j in
     let has = transfer_at k c.args.w.now c.args.transfers.now c.args.to_give.now c.args.to_get.now c.requires.kept j (get_or c.args.q.now.via j 0) c.index-transfers-j.result c.loop-turn.invariant.inside (c.requires.sound.bridges j (omega (arith, c.requires.receiver))) c.index-transfers-j.is in
     let less = c.lesser-d.ensures.stands has.0 c.loop-turn.invariant.good in
-    least_next k c.args.w.now (state_of k c.args.transfers.now c.args.to_give.now c.args.to_get.now) c.args.q.now c.args.z c.loop-turn.-turn j c.loop-turn.d c.index-transfers-j.result c.lesser-d.result
+    least_next k c.args.w.now (state_of k c.args.transfers.now c.args.to_give.now c.args.to_get.now) c.args.q.now c.args.z c.loop-turn._turn j c.loop-turn.d c.index-transfers-j.result c.lesser-d.result
     c.loop-turn-test.true c.requires.sound (sym c.if-has.ensures) has.1 less.0 less.1 c.loop-turn.invariant
 
 pub returns : goal.returns
@@ -49,6 +49,6 @@ returns g c =
       value = less.0;
       least =
           least_end k c.args.w.now (state_of k c.args.transfers.now c.args.to_give.now c.args.to_get.now) c.args.q.now c.args.z j c.loop-turn.invariant.hops c.loop-turn.d c.index-to_give-j-2.result c.lesser-2.result
-          (on_over c.args.w.now c.args.q.now c.args.z c.loop-turn.-turn j c.loop-turn.invariant.hops c.loop-turn-test.false c.loop-turn.invariant.on)
+          (on_over c.args.w.now c.args.q.now c.args.z c.loop-turn._turn j c.loop-turn.invariant.hops c.loop-turn-test.false c.loop-turn.invariant.on)
           c.loop-turn.invariant.value has.1 less.1;
     }
