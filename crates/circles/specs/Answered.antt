@@ -1,6 +1,7 @@
 -- What the general plan call answers and leaves, said of the task that the members pose.
 use Rattle.std.specs.Prelude.{◌≡◌, true, List}
-use Rattle.flow.specs.Flow.{Task, WithinMembers}
+use Rattle.flow.specs.Flow.{Task}
+use Rattle.flow.specs.Outcomes.{WithinMembers}
 use Rattle.amounts.specs.Kind.{Kind}
 use Rattle.planner.specs.declared.answer.Answer.{Answer}
 use Rattle.planner.specs.Answers.{Ran}

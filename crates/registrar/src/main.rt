@@ -1,7 +1,6 @@
 // The registrar's worked report: one task after another, from beginning to end.
 #![tactic(auto)]
 
-
 mod planning;
 mod sample;
 mod valuation;
