@@ -24,8 +24,8 @@ const NO_DRIFT: Drift = Drift {
 // A refusal as the report tells it.
 fn refused(refusal: Refusal) -> anyhow::Error {
     match refusal {
-        Refusal::NotAdmitted => "a member of the report is not admitted".into(),
-        _ => "a call of the report is refused".into(),
+        Refusal::NotAdmitted => anyhow!("a member of the report is not admitted"),
+        _ => anyhow!("a call of the report is refused"),
     }
 }
 
