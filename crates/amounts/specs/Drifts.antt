@@ -1,5 +1,5 @@
 -- Drift: a weight with its yearly change.
-use Rattle.std.specs.Prelude.{ℕ, Bool, ◌&&◌, List, [], ◌∷◌, ◌++◌, ℤ, pos, negsuc, neg_ℤ, decimal, int_le}
+use Rattle.std.specs.Prelude.{Bool, ◌&&◌, ◌∷◌, ◌++◌, pos, neg_ℤ, decimal, int_le}
 use Rattle.std.specs.Fmt.{signed_decimal}
 use Rattle.groups.specs.Groups.{whole, Pair, pairs}
 use Rattle.amounts.specs.Kind.{Kind}

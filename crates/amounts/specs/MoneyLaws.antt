@@ -1,13 +1,12 @@
 -- Money keeps the laws of a kind, and is closed below.
-use Rattle.std.specs.Prelude.{◌≡◌, ℕ, ◌^◌, ◌<◌, ◌≤◌, true, ◌&&◌, length, ℤ, pos, negsuc, decimal, nat_le, refl}
+use Rattle.std.specs.Prelude.{◌≡◌, ℕ, ◌^◌, ◌<◌, ◌≤◌, true, length, ℤ, pos, negsuc, decimal, nat_le, refl}
 use Rattle.std.proofs.Common.{arith}
-use Rattle.std.specs.Int.Signed.{le_z}
 use Rattle.std.proofs.lemmas.Fmt.{decimal_nonempty, length-decimal-le}
 use Rattle.std.proofs.lemmas.Int.{ints}
 use Rattle.std.proofs.lemmas.Bool.{and_from, and_parts, leb-true, le-leb}
 use Rattle.groups.proofs.WholeOrder.{whole_ordered}
 use Rattle.amounts.specs.declared.money.Money.{Money}
-use Rattle.amounts.specs.Kind.{Kind, Lawful, ClosedBelow}
+use Rattle.amounts.specs.Kind.{Lawful, ClosedBelow}
 use Rattle.amounts.specs.Moneys.{money}
 
 value_held : (m : Money) → money.value m ≡ true → money.held (money.element m) ≡ true

@@ -1,5 +1,5 @@
 -- Money: whole numbers, of which 0 to 10^18 are held.
-use Rattle.std.specs.Prelude.{ℕ, Bool, ◌&&◌, ℤ, pos, decimal, int_le, nat_le}
+use Rattle.std.specs.Prelude.{◌&&◌, pos, decimal, int_le, nat_le}
 use Rattle.groups.specs.Groups.{whole}
 use Rattle.amounts.specs.Kind.{Kind}
 use Rattle.amounts.specs.declared.money.Money.{Money}

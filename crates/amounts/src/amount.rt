@@ -1,7 +1,7 @@
 ghost use Rattle.std.specs.Prelude.{◌≡◌, ◌≤◌, true, length, if◌then◌else◌};
 ghost use Rattle.std.specs.Ordering.{is_gt};
 ghost use Rattle.refusals.specs.Judged.{judged, left};
-ghost use Rattle.groups.specs.Sums.{lesser as lesserElement};
+ghost use Rattle.groups.specs.Sums.{lesser as lesser_element};
 ghost use Rattle.amounts.specs.Kind.{Kind, Lawful, StandsFor, compared, Sum, Difference, text_refusal};
 ghost use Rattle.decimals.specs.Texts.{over};
 
@@ -71,7 +71,7 @@ pub trait Amount: Copy {
 // The lesser of two amounts; the first where they are equal or one is no value.
 pub fn lesser<K: Amount>(a: K, b: K) -> K
     ensures value { result ≡ (if is_gt (compared K.Amount.kind a b) then b else a) }
-    ensures stands { K.Amount.kind.value a ≡ true → K.Amount.kind.value b ≡ true → StandsFor K.Amount.kind result (lesserElement K.Amount.kind.group (K.Amount.kind.element a) (K.Amount.kind.element b)) }
+    ensures stands { K.Amount.kind.value a ≡ true → K.Amount.kind.value b ≡ true → StandsFor K.Amount.kind result (lesser_element K.Amount.kind.group (K.Amount.kind.element a) (K.Amount.kind.element b)) }
 {
     match a.compare(b) {
         Ordering::Greater => b,

@@ -90,9 +90,9 @@ mod tests {
     fn texts_of_drift(rt: HostRuntime) {
         let mut buffer = [b'.'; 40];
         assert_eq!(rt; drift(7, -12).text(&mut buffer), Ok(5));
-        assert!(rt; &buffer[0..6] == b"7 -12.");
+        assert!(rt; &buffer[0..6] == b"7 -12.".as_slice());
         assert_eq!(rt; drift(MOST, -MOST_CHANGE).text(&mut buffer), Ok(40));
-        assert!(rt; &buffer[0..40] == b"1000000000000000000 -1000000000000000000");
+        assert!(rt; &buffer[0..40] == b"1000000000000000000 -1000000000000000000".as_slice());
     }
 
     #[test]

@@ -1,8 +1,8 @@
 -- Each call that is not refused keeps what holds of every circle.
-use Rattle.std.proofs.Common.{◌≡◌, ℕ, ◌+◌, ◌-◌, ◌*◌, ◌<◌, ◌≤◌, Bool, true, false, not, ◌&&◌, eqb, ltb, leb, ◌≢◌, ◌⊎◌, List, length, get_or, set, replicate, None, sum_by, sym, refl, ap, ◌∙◌, subst, inl, inr, ⊎_elim, arith}
+use Rattle.std.proofs.Common.{◌≡◌, ℕ, ◌+◌, ◌<◌, ◌≤◌, Bool, true, false, ◌&&◌, ltb, ◌≢◌, List, length, get_or, set, replicate, None, sum_by, sym, refl, ap, ◌∙◌, subst, ⊎_elim, arith}
 use Rattle.std.proofs.lemmas.List.{length-set, get_or-set_same, get_or-set_other, get_or_past, get_or-replicate}
-use Rattle.std.proofs.lemmas.List.Sums.{sum_by-set, get_or-le-sum_by}
-use Rattle.std.proofs.lemmas.Bool.{cases_eq, cases_lt, false≢true, true≢false, and_parts}
+use Rattle.std.proofs.lemmas.List.Sums.{sum_by-set}
+use Rattle.std.proofs.lemmas.Bool.{cases_eq, cases_lt, false≢true, true≢false}
 use Rattle.std.proofs.lemmas.Bool.Decides.{nat_tests}
 use Rattle.tables.specs.declared.row.Rates.{Rates}
 use Rattle.amounts.specs.declared.money.Money.{Money}
@@ -11,8 +11,7 @@ use Rattle.circles.specs.declared.members.Members.{Members}
 use Rattle.circles.specs.declared.state.State.{State}
 use Rattle.circles.specs.Members.{blank, nobody, member_at, newcomer, joined, with_bar, bar_put}
 use Rattle.circles.specs.Calls.{nothing, no_transfers, opened, voided, rates_fit, admit_refusal, admitted, plan_refusal, outlook_refusal, transfer_refusal}
-use Rattle.circles.specs.Tasks.{permits}
-use Rattle.circles.specs.Sound.{Shaped, Whole, Rated, Settled, Bounded, Void, plan_for, Forfeits, Gains, forbids, Permitted, Sound}
+use Rattle.circles.specs.Sound.{Sound}
 
 -- one record changed
 each_set : (P : ℕ → Member → Type 0) (xs : List Member) (j : ℕ) (m : Member) → j < length xs → P j m → ((k : ℕ) → k ≢ j → P k (get_or xs k blank))

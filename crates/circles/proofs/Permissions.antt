@@ -1,18 +1,15 @@
 -- Permission words: one row after another, and what they pose to the planner.
-use Rattle.std.proofs.Common.{◌≡◌, ℕ, zero, suc, ◌+◌, ◌*◌, ◌/◌, ◌^◌, ◌<◌, ◌≤◌, Bool, true, false, cond, not, ◌&&◌, eqb, ltb, ◌⊎◌, List, length, get_or, set, replicate, Some, None, sym, refl, ap, ◌∙◌, subst, ap₂, inl, inr, pow-suc, arith}
+use Rattle.std.proofs.Common.{◌≡◌, ℕ, zero, suc, ◌+◌, ◌/◌, ◌^◌, ◌<◌, ◌≤◌, Bool, true, false, cond, not, ◌&&◌, eqb, ltb, ◌⊎◌, List, length, get_or, set, replicate, None, sym, refl, ap, ◌∙◌, subst, ap₂, inl, inr, pow-suc, arith}
 use mathlib.Core.Path.{fun_ext}
 use Rattle.std.proofs.lemmas.List.{get_or-set_same, get_or-set_other, get_or_past, get_or-replicate}
-use Rattle.std.proofs.lemmas.Bool.{cases_eq, cases_lt, lt-ltb, le-ltb, eq-eqb, and_from, and_left, and_right, and_parts, not_from_false}
+use Rattle.std.proofs.lemmas.Bool.{cases_eq, cases_lt, lt-ltb, le-ltb, eq-eqb, and_from, and_left, and_right, not_from_false}
 use Rattle.std.proofs.lemmas.Bool.Decides.{nat_tests}
 use Rattle.words.specs.Words.{bit}
 use Rattle.words.proofs.Digits.{bit_zero, bit_none}
-use Rattle.groups.specs.Group.{Group}
-use Rattle.flow.specs.Flow.{Task}
 use Rattle.amounts.specs.Kind.{Kind}
 use Rattle.planner.specs.declared.answer.Answer.{Answer}
 use Rattle.planner.specs.Calls.{all_below, word_fits, words_fit, weights_fit, plan_refusal, asked, Planned}
 use Rattle.planner.specs.Tables.{row}
-use Rattle.planner.proofs.Checked.{all_more}
 use Rattle.circles.specs.declared.members.Members.{Members}
 use Rattle.circles.specs.Members.{member_at, is_barred}
 use Rattle.circles.specs.Tasks.{permits, posed_by}

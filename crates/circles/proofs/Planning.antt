@@ -1,13 +1,12 @@
 -- The plan call of a circle, from what the planner says of the run.
-use Rattle.std.proofs.Common.{◌≡◌, ℕ, zero, suc, ◌+◌, ◌-◌, ◌*◌, ◌/◌, ◌%◌, ◌<◌, ◌≤◌, Bool, true, false, cond, not, ◌&&◌, ltb, List, [], ◌∷◌, map, length, get_or, ℤ, pos, nat_abs, sym, refl, ap, ◌∙◌, subst, arith}
+use Rattle.std.proofs.Common.{◌≡◌, ℕ, zero, suc, ◌+◌, ◌-◌, ◌*◌, ◌/◌, ◌%◌, ◌<◌, ◌≤◌, Bool, true, false, cond, not, ◌&&◌, ltb, List, [], ◌∷◌, length, get_or, pos, nat_abs, sym, refl, ap, ◌∙◌, subst, arith}
 use lib.Signed.{le_z}
 use Rattle.std.proofs.lemmas.Int.{ints}
-use Rattle.std.specs.List.{range_with_len}
 use Rattle.std.proofs.lemmas.List.FromFn.{fill_by_all}
-use Rattle.std.proofs.lemmas.Bool.{and_parts, and_from, not_from_false, ltb-true, not-true, lt-ltb, cond-true, false≢true, true≢false}
+use Rattle.std.proofs.lemmas.Bool.{and_parts, and_from, not_from_false, ltb-true, not-true, lt-ltb, cond-true, true≢false}
 use Rattle.groups.specs.Groups.{whole}
-use Rattle.flow.specs.Flow.{Task, Fair}
-use Rattle.flow.specs.Outcomes.{End, planned as plannedEnd, blocked, outgrown}
+use Rattle.flow.specs.Flow.{Fair}
+use Rattle.flow.specs.Outcomes.{End, planned as planned_end, blocked, outgrown}
 use Rattle.words.specs.Words.{bit}
 use Rattle.amounts.specs.Kind.{Kind}
 use Rattle.amounts.specs.Drifts.{drift}
@@ -19,13 +18,13 @@ use Rattle.planner.specs.declared.answer.Answer.{Answer}
 use Rattle.planner.specs.declared.answer.Answer.TheVariants.{Plan, Blocked, Outgrown}
 use Rattle.planner.specs.Answers.{answer_by}
 use Rattle.circles.specs.Answered.{Answered}
-use Rattle.planner.specs.Tables.{row, table, state_of}
+use Rattle.planner.specs.Tables.{row, table}
 use Rattle.circles.specs.declared.member.Member.{Member}
 use Rattle.circles.specs.declared.members.Members.{Members}
 use Rattle.circles.specs.declared.state.State.{State}
 use Rattle.circles.specs.Calls.{nothing, no_transfers, voided}
-use Rattle.circles.specs.Plans.{listed, table_of, run_of, is_plan, plan_answer, settled, planned, told_by, PlanMeans, TransferMeans}
-use Rattle.circles.specs.Sound.{plan_for, forbids, Sound}
+use Rattle.circles.specs.Plans.{listed, table_of, run_of, is_plan, settled, planned, told_by, PlanMeans, TransferMeans}
+use Rattle.circles.specs.Sound.{plan_for, Sound}
 use Rattle.circles.specs.Tasks.{permits, posed_by, money_task, drift_task}
 use Rattle.circles.specs.Outlooks.{Foretells}
 use Rattle.circles.specs.Members.{member_at}
@@ -60,12 +59,12 @@ table_is xs e =
 
 -- whether a run ends with a plan, by its answer
 pub plan_is_plan : (e : End) (c steps : ℕ) → answer_by e c ≡ Plan steps → is_plan e ≡ true
-plan_is_plan plannedEnd c steps h = refl
+plan_is_plan planned_end c steps h = refl
 plan_is_plan (blocked S) c steps h = let z : ◌≡◌ {A = ℕ} 0 1 = cc in absurd (omega arith)
 plan_is_plan outgrown c steps h = let z : ◌≡◌ {A = ℕ} 0 1 = cc in absurd (omega arith)
 
 pub no_plan : (e : End) (c : ℕ) → ((steps : ℕ) → answer_by e c ≡ Plan steps → ⊥) → is_plan e ≡ false
-no_plan plannedEnd c h = absurd (h c refl)
+no_plan planned_end c h = absurd (h c refl)
 no_plan (blocked S) c h = refl
 no_plan outgrown c h = refl
 

@@ -1,25 +1,21 @@
 -- Weights of the members in a table: they fit, and they are what the members pose.
-use Rattle.std.proofs.Common.{◌≡◌, ℕ, zero, suc, ◌+◌, ◌*◌, ◌<◌, ◌≤◌, Bool, true, false, cond, ◌&&◌, ltb, leb, ◌⊎◌, List, [], ◌∷◌, length, get_or, ℤ, pos, ◌*ℤ◌, neg_ℤ, ◌≤ℤ◌, sym, refl, ap, ◌∙◌, subst, inl, inr, zero-mul, arith}
+use Rattle.std.proofs.Common.{◌≡◌, ℕ, zero, suc, ◌*◌, ◌<◌, ◌≤◌, Bool, true, cond, ltb, ◌⊎◌, List, [], ◌∷◌, length, get_or, ℤ, pos, ◌*ℤ◌, neg_ℤ, ◌≤ℤ◌, sym, refl, ap, ◌∙◌, subst, inl, inr, zero-mul, arith}
 use mathlib.Core.Path.{fun_ext}
 use lib.IntN.{zero-*ℤ}
-use lib.Signed.{le_z}
 use Rattle.std.proofs.lemmas.Nat.{mul-le}
 use Rattle.std.proofs.lemmas.List.{get_or_past, get_or_default}
 use Rattle.std.proofs.lemmas.Int.{ints}
 use Rattle.std.proofs.lemmas.List.Sums.{get_or-le-sum_by}
-use Rattle.std.proofs.lemmas.Bool.{cases_lt, lt-ltb, le-ltb, le-leb, and_from, cond-true, cond-false}
+use Rattle.std.proofs.lemmas.Bool.{cases_lt, lt-ltb, le-ltb, and_from, cond-true, cond-false}
 use Rattle.std.proofs.lemmas.Bool.Decides.{nat_tests}
-use Rattle.groups.specs.Groups.{whole, Pair}
 use Rattle.amounts.specs.Kind.{Kind}
 use Rattle.amounts.specs.Moneys.{money}
 use Rattle.amounts.specs.Drifts.{drift}
 use Rattle.planner.specs.Calls.{all_first, weight_fits, weights_fit}
 use Rattle.planner.specs.Tables.{row}
-use Rattle.planner.proofs.Checked.{first_more}
 use Rattle.planner.proofs.Entries.{row_is}
 use Rattle.circles.specs.declared.member.Member.{Member}
 use Rattle.circles.specs.declared.members.Members.{Members}
-use Rattle.circles.specs.Calls.{rates_fit}
 use Rattle.circles.specs.Members.{blank, member_at}
 use Rattle.circles.specs.Tasks.{weight_in, change_in, money_of, drift_of}
 use Rattle.circles.proofs.Keeps.{Manned}

@@ -1,5 +1,5 @@
 -- What each call of a circle answers, and what it leaves. Calls number members from 1, tables from 0.
-use Rattle.std.specs.Prelude.{ℕ, ◌+◌, ◌-◌, ◌*◌, Bool, true, false, not, ◌&&◌, List, [], ◌∷◌, length, replicate, pos, ◌+ℤ◌, Option, ◌==◌, int_le, nat_le, nat_lt, slice_index_or}
+use Rattle.std.specs.Prelude.{ℕ, ◌+◌, ◌-◌, ◌*◌, Bool, false, not, ◌&&◌, List, [], ◌∷◌, replicate, pos, ◌+ℤ◌, Option, ◌==◌, int_le, nat_le, nat_lt, slice_index_or}
 use Rattle.refusals.specs.declared.Refusal.{Refusal}
 use Rattle.refusals.specs.declared.Refusal.TheVariants.{Length, Stake, Rates as RatesRefused, NotAdmitted, SameMember, TotalPassed, CircleFull, NobodyAdmitted}
 use Rattle.refusals.specs.Judged.{first_of}

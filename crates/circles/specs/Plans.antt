@@ -1,5 +1,5 @@
 -- The plan of a circle: what its call answers and leaves, and what that means.
-use Rattle.std.specs.Prelude.{◌≡◌, ℕ, ◌-◌, ◌*◌, ◌/◌, ◌%◌, ◌≤◌, Bool, true, false, cond, List, map, ℤ, pos, ◌≢◌, unsigned_abs}
+use Rattle.std.specs.Prelude.{◌≡◌, ℕ, ◌-◌, ◌/◌, ◌%◌, ◌≤◌, Bool, true, false, cond, List, map, ℤ, pos, ◌≢◌, unsigned_abs}
 use Rattle.std.specs.List.{range_with_len}
 use Rattle.words.specs.Words.{bit}
 use Rattle.groups.specs.Groups.{whole}
@@ -7,7 +7,7 @@ use Rattle.groups.specs.Sums.{Lt}
 use Rattle.amounts.specs.Moneys.{money}
 use Rattle.amounts.specs.declared.money.Money.{Money}
 use Rattle.flow.specs.Flow.{Fair, near, weight_of}
-use Rattle.flow.specs.Outcomes.{End, planned as plannedEnd, blocked, outgrown, Outcome, limit}
+use Rattle.flow.specs.Outcomes.{End, planned as planned_end, blocked, outgrown, Outcome, limit}
 use Rattle.planner.specs.declared.answer.Answer.{Answer}
 use Rattle.planner.specs.declared.answer.Answer.TheVariants.{Plan, Blocked, Outgrown}
 use Rattle.planner.specs.Answers.{answer_by, steps_of, outcome_of}
@@ -31,7 +31,7 @@ run_of ms = outcome_of money (money_task ms)
 
 -- a run that ends with a plan
 abbrev pub is_plan : End → Bool
-is_plan plannedEnd = true
+is_plan planned_end = true
 is_plan (blocked S) = false
 is_plan outgrown = false
 

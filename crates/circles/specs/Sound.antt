@@ -1,11 +1,9 @@
 -- What holds of every circle.
-use Rattle.std.specs.Prelude.{◌≡◌, ℕ, ◌+◌, ◌*◌, ◌<◌, ◌≤◌, Bool, true, false, not, ◌&&◌, length, ℤ, pos, sum_by, nat_lt, slice_index_or}
+use Rattle.std.specs.Prelude.{◌≡◌, ℕ, ◌<◌, ◌≤◌, Bool, true, false, not, ◌&&◌, length, pos, sum_by, nat_lt, slice_index_or}
 use Rattle.groups.specs.Groups.{whole}
 use Rattle.groups.specs.Sums.{sum_below}
 use Rattle.amounts.specs.Moneys.{money}
 use Rattle.planner.specs.Tables.{table}
-use Rattle.circles.specs.declared.member.Member.{Member}
-use Rattle.circles.specs.declared.members.Members.{Members}
 use Rattle.circles.specs.declared.state.State.{State}
 use Rattle.circles.specs.Members.{member_at}
 use Rattle.circles.specs.Calls.{nothing, rates_fit}

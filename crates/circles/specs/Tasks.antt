@@ -1,9 +1,6 @@
 -- What the members of a circle pose to the planner: their weights, and who may receive from whom.
 use Rattle.std.specs.Prelude.{ℕ, ◌*◌, Bool, not, ◌&&◌, ℤ, pos, ◌*ℤ◌, ◌==◌}
 use Rattle.groups.specs.Groups.{whole, Pair}
-use Rattle.amounts.specs.Kind.{Kind}
-use Rattle.amounts.specs.Moneys.{money}
-use Rattle.amounts.specs.Drifts.{drift}
 use Rattle.amounts.specs.declared.money.Money.{Money}
 use Rattle.amounts.specs.declared.drift.Drift.{Drift}
 use Rattle.flow.specs.Flow.{Task}

@@ -1,5 +1,5 @@
 -- The digits of a number, found from the last to the first.
-use Rattle.std.specs.Prelude.{◌≡◌, ℕ, ◌+◌, ◌/◌, ◌^◌, ◌<◌, ◌≤◌, List, ◌++◌, drop, decimal}
+use Rattle.std.specs.Prelude.{◌≡◌, ℕ, ◌/◌, ◌^◌, ◌<◌, ◌≤◌, List, ◌++◌, drop, decimal}
 use Rattle.decimals.specs.declared.digits.Digits.{Digits}
 
 -- the digits found so far

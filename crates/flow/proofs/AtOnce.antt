@@ -2,7 +2,7 @@
 use Rattle.std.proofs.Common.{◌≡◌, ℕ, zero, suc, pred, ◌<◌, ◌≤◌, Bool, true, false, cond, not, ◌&&◌, eqb, ◌⊎◌, List, [], ◌∷◌, ◌++◌, sym, refl, ap, ◌∙◌, subst, inl, inr, true≢false, arith}
 use Rattle.std.proofs.lemmas.Bool.{and_parts, cases_lt, eq-eqb, ne_eqb, cond-true, cond-false}
 use Rattle.words.specs.Sweep.{sweep}
-use Rattle.flow.specs.Search.{Tests, Ends, searching, found, Search, mark, joined, noted, ended, popped, going, back_test, backs, out_test, out_act, outs, turn_at, turns, starters, fresh, search_all}
+use Rattle.flow.specs.Search.{Tests, searching, found, Search, mark, joined, noted, ended, popped, going, back_test, backs, out_test, out_act, outs, turn_at, turns, starters, fresh, search_all}
 
 -- a sweep leaves alone what each of its acts leaves alone
 sweep_keeps : {S A : Type 0} (test : ℕ → S → Bool) (act : ℕ → S → S) (f : S → A) → ((k : ℕ) (s : S) → f (act k s) ≡ f s)

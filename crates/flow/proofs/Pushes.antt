@@ -6,7 +6,7 @@ use Rattle.groups.specs.Group.{Group, Ordered}
 use Rattle.groups.specs.Sums.{Le, above, sum_below, keep, lesser}
 use Rattle.groups.proofs.Order.{undo, minus_plus, swap_last, le_of_eq, plus_nonneg, le_plus_right, minus_nonneg, le_cancel}
 use Rattle.groups.proofs.Totals.{sum_ext, sum_one}
-use Rattle.flow.specs.Routes.{Hop, bump, push, least, amount, taken}
+use Rattle.flow.specs.Routes.{Hop, bump, push, least, taken}
 
 module _ (G : Group) where
   open G use {Element as E, plus as ◌⊕◌, le}

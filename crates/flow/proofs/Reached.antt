@@ -1,5 +1,5 @@
 -- The run step by step: where it starts, where a step leads, and its outcome where it stops.
-use Rattle.std.proofs.Common.{◌≡◌, ℕ, suc, ◌-◌, ◌<◌, ◌≤◌, Bool, true, false, sym, refl, ap, ◌∙◌, subst, arith}
+use Rattle.std.proofs.Common.{◌≡◌, ℕ, suc, ◌-◌, ◌<◌, ◌≤◌, Bool, true, false, ap, ◌∙◌, subst, arith}
 use Rattle.groups.specs.Group.{Group, Ordered}
 use Rattle.groups.specs.Sums.{Le, above}
 use Rattle.flow.specs.Flow.{Task, State, Inv, Closed}

@@ -1,11 +1,11 @@
 -- One step along a shortest route keeps the invariant, and what it changes.
-use Rattle.std.proofs.Common.{◌≡◌, ℕ, zero, suc, ◌<◌, Bool, true, false, not, ◌⊎◌, List, [], ◌∷◌, sym, refl, ap, ◌∙◌, subst, ap₂, inl, inr, true≢false, arith}
+use Rattle.std.proofs.Common.{◌≡◌, ℕ, suc, ◌<◌, Bool, true, false, ◌⊎◌, List, [], ◌∷◌, sym, refl, ap, ◌∙◌, subst, ap₂, inl, inr, true≢false, arith}
 use Rattle.groups.specs.Group.{Group, Ordered}
 use Rattle.groups.specs.Sums.{Le, above, sum_below}
 use Rattle.groups.proofs.Order.{above_mono, nil_not_above}
 use Rattle.flow.specs.Flow.{Task, State, Inv}
 use Rattle.flow.specs.Levels.{within, met, At, MetAt}
-use Rattle.flow.specs.Routes.{Hop, bump, push, least, amount, taken, give, Link, Route}
+use Rattle.flow.specs.Routes.{Hop, bump, push, least, taken, give, Link, Route}
 use Rattle.flow.proofs.Pushes.{bump_here, bump_row, bump_column, bump_cases, bump_least, bump_up, bump_down, bump_floor, Inside, inside_first, row_push, column_push, taken_there, taken_floor, Covered, Meets}
 
 module _ (G : Group) (t : Task G.Element) (s : State G.Element) where

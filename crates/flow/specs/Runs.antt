@@ -1,5 +1,5 @@
 -- Where a run starts, and the states that steps along shortest routes lead to.
-use Rattle.std.specs.Prelude.{◌≡◌, ℕ, zero, suc, pred, ◌+◌, ◌*◌, ◌<◌, ◌≤◌, true, List}
+use Rattle.std.specs.Prelude.{◌≡◌, ℕ, suc, pred, ◌+◌, ◌*◌, ◌<◌, ◌≤◌, true, List}
 use Rattle.groups.specs.Group.{Group}
 use Rattle.groups.specs.Sums.{Le, above}
 use Rattle.flow.specs.Counts.{sum_n, bit}

@@ -1,5 +1,5 @@
 -- Laws of a totally ordered abelian group.
-use Rattle.std.proofs.Common.{◌≡◌, Bool, true, false, cond, not, ◌⊎◌, sym, refl, ap, ◌∙◌, subst, inl, inr, true≢false}
+use Rattle.std.proofs.Common.{◌≡◌, Bool, true, false, not, ◌⊎◌, sym, refl, ap, ◌∙◌, subst, inl, inr, true≢false}
 use mathlib.Core.Bool.{false≢true}
 use Rattle.groups.specs.Group.{Group, Ordered}
 use Rattle.groups.specs.Sums.{Le, Lt, above, minus}

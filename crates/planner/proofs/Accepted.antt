@@ -1,9 +1,9 @@
 -- What is known of a call that is not refused.
-use Rattle.std.proofs.Common.{◌≡◌, ℕ, ◌<◌, ◌≤◌, Bool, true, false, cond, not, ◌&&◌, eqb, leb, List, length, get_or, Some, None, Option, sym, refl, ap, ◌∙◌, arith}
+use Rattle.std.proofs.Common.{◌≡◌, ℕ, ◌≤◌, Bool, true, false, cond, not, ◌&&◌, eqb, leb, List, length, Some, None, Option, refl, arith}
 use Rattle.std.proofs.lemmas.Bool.{and_parts, eqb-true, leb-true}
 use Rattle.refusals.specs.declared.Refusal.{Refusal}
 use Rattle.amounts.specs.Kind.{Kind}
-use Rattle.planner.specs.Calls.{words_fit, weight_fits, weights_fit, lengths_fit, plan_refusal}
+use Rattle.planner.specs.Calls.{words_fit, weights_fit, lengths_fit, plan_refusal}
 
 passed : (b : Bool) (e : Refusal) (rest : Option Refusal) → cond (not b) (Some e) rest ≡ None → (b ≡ true) × (rest ≡ None)
 passed true e rest h = (refl, h)

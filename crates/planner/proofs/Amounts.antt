@@ -1,5 +1,5 @@
 -- What is read from tables that are in step with the words.
-use Rattle.std.proofs.Common.{◌≡◌, ℕ, ◌+◌, ◌*◌, ◌<◌, true, List, get_or, arith}
+use Rattle.std.proofs.Common.{◌≡◌, ℕ, ◌+◌, ◌*◌, ◌<◌, List, get_or, arith}
 use Rattle.amounts.specs.Kind.{Kind, StandsFor}
 use Rattle.planner.specs.declared.state.Words.{Words}
 use Rattle.planner.specs.Step.{InStep}

@@ -1,10 +1,10 @@
 -- On a shortest route every link is written once, so the order of writing does not matter.
-use Rattle.std.proofs.Common.{◌≡◌, ℕ, suc, ◌<◌, Bool, true, false, ◌&&◌, List, [], ◌∷◌, sym, refl, ap, ◌∙◌, ap₂, true≢false, arith}
+use Rattle.std.proofs.Common.{◌≡◌, ℕ, suc, Bool, true, false, ◌&&◌, List, [], ◌∷◌, sym, refl, ap, ◌∙◌, ap₂, true≢false, arith}
 use Rattle.groups.specs.Group.{Group}
 use Rattle.groups.specs.Sums.{minus}
 use Rattle.flow.specs.Flow.{Task, State}
-use Rattle.flow.specs.Levels.{within, At}
-use Rattle.flow.specs.Routes.{Hop, bump, push, held_along, Route}
+use Rattle.flow.specs.Levels.{within}
+use Rattle.flow.specs.Routes.{Hop, push, held_along, Route}
 use Rattle.flow.proofs.Pushes.{bump_row}
 use Rattle.flow.proofs.Steps.{route_first, push_sooner}
 use Rattle.planner.specs.Ways.{held_back}

@@ -1,13 +1,13 @@
 -- The sweep back from a receiver, as a loop over the places of a word.
-use Rattle.std.proofs.Common.{◌≡◌, ℕ, zero, suc, ◌+◌, ◌<◌, ◌≤◌, Bool, true, false, cond, not, ◌&&◌, eqb, get_or, sym, refl, ap, ◌∙◌, subst, ap₂, arith}
+use Rattle.std.proofs.Common.{◌≡◌, ℕ, ◌<◌, true, false, cond, not, ◌&&◌, eqb, get_or, sym, ap, ◌∙◌, subst, arith}
 use Rattle.std.proofs.lemmas.Bool.{and_left, and_parts, not-true}
 use Rattle.words.specs.Words.{bit, Lowest}
-use Rattle.words.specs.Sweep.{sweep, Swept}
-use Rattle.words.proofs.Sweeps.{Acts, sweep_starts, sweep_ends, sweep_acts}
-use Rattle.flow.specs.Search.{Ends, searching, Search, joined}
+use Rattle.words.specs.Sweep.{Swept}
+use Rattle.words.proofs.Sweeps.{Acts, sweep_starts, sweep_acts}
+use Rattle.flow.specs.Search.{searching, joined}
 use Rattle.planner.specs.declared.state.Seek.{Seek}
 use Rattle.planner.specs.declared.state.Words.{Words}
-use Rattle.flow.specs.Search.{Tests, back_test}
+use Rattle.flow.specs.Search.{back_test}
 use Rattle.planner.specs.Model.{model, tests, Sound, Fitted}
 use Rattle.planner.proofs.Marks.{mark_other, bit_marked, room_left, after, after_model, after_sound}
 

@@ -1,12 +1,12 @@
 -- Writes to the words and arrays of a search.
-use Rattle.std.proofs.Common.{◌≡◌, ℕ, zero, suc, ◌+◌, ◌*◌, ◌<◌, ◌≤◌, Bool, true, false, cond, not, ◌&&◌, eqb, ◌⊎◌, List, [], ◌∷◌, ◌++◌, length, get_or, take, drop, set, sym, refl, ap, ◌∙◌, subst, ap₂, inl, inr, true≢false, add-one, arith, length-take, take-suc-set}
+use Rattle.std.proofs.Common.{◌≡◌, ℕ, zero, suc, ◌+◌, ◌<◌, ◌≤◌, Bool, true, false, cond, eqb, ◌⊎◌, List, [], ◌∷◌, ◌++◌, length, get_or, take, drop, set, sym, refl, ap, ◌∙◌, subst, inl, inr, add-one, arith, length-take, take-suc-set}
 use mathlib.Core.Path.{fun_ext}
 use lib.Seq.{drop-append-le}
 use Rattle.std.proofs.lemmas.List.{get_or-set_same, get_or-set_other, length-set}
-use Rattle.std.proofs.lemmas.Bool.{cases_eq, cases_lt, eq-eqb, ne_eqb, cond-true, cond-false}
+use Rattle.std.proofs.lemmas.Bool.{cases_eq, eq-eqb, ne_eqb, cond-true, cond-false}
 use Rattle.words.specs.Words.{bit}
-use Rattle.flow.specs.Counts.{count, sum_n}
-use Rattle.flow.specs.Search.{Ends, searching, found, Search, mark, joined, noted}
+use Rattle.flow.specs.Counts.{count}
+use Rattle.flow.specs.Search.{Ends, mark, joined}
 use Rattle.flow.proofs.Counting.{count_lt, count_most}
 use Rattle.planner.specs.declared.state.Seek.{Seek}
 use Rattle.planner.specs.Model.{places, model, Sound}

@@ -2,13 +2,13 @@
 use Rattle.std.proofs.Common.{◌≡◌, ℕ, zero, suc, ◌+◌, ◌*◌, ◌/◌, ◌%◌, ◌<◌, ◌≤◌, Bool, true, false, cond, ◌&&◌, ◌||◌, eqb, List, sym, refl, ap, ◌∙◌, subst, ap₂, arith}
 use Rattle.words.specs.Words.{bit}
 use Rattle.groups.specs.Group.{Group, Ordered}
-use Rattle.groups.specs.Sums.{Le, Lt, minus, sum_below, keep}
+use Rattle.groups.specs.Sums.{Le, Lt, minus, keep}
 use Rattle.groups.proofs.Totals.{sum_ext}
 use Rattle.flow.specs.Counts.{any_below}
-use Rattle.flow.specs.Flow.{Task, State, Fair, near, weight_of}
-use Rattle.flow.specs.Outcomes.{End, planned, blocked, outgrown, Outcome, outcome, limit, Answered, Outgrows}
+use Rattle.flow.specs.Flow.{Task, near, weight_of}
+use Rattle.flow.specs.Outcomes.{End, planned, blocked, outgrown, limit, Answered}
 use Rattle.flow.proofs.Outcomes.{answered, never_outgrown, exclude}
-use Rattle.amounts.specs.Kind.{Kind, Lawful, ClosedBelow}
+use Rattle.amounts.specs.Kind.{Kind, Lawful}
 use Rattle.planner.specs.declared.answer.Answer.{Answer}
 use Rattle.planner.specs.declared.answer.Answer.TheVariants.{Plan, Blocked, Outgrown}
 use Rattle.planner.specs.Answers.{word_of, answer_by, steps_of, outcome_of, Ran}

@@ -1,11 +1,11 @@
 -- The visit of a giver, as a loop over the places of a word.
-use Rattle.std.proofs.Common.{◌≡◌, ℕ, zero, suc, ◌+◌, ◌<◌, ◌≤◌, Bool, true, false, cond, not, ◌&&◌, eqb, length, get_or, set, sym, refl, ap, ◌∙◌, subst, ap₂, arith}
+use Rattle.std.proofs.Common.{◌≡◌, ℕ, zero, suc, ◌<◌, ◌≤◌, Bool, true, false, cond, not, ◌&&◌, eqb, get_or, set, sym, refl, ap, ◌∙◌, subst, ap₂, arith}
 use Rattle.std.proofs.lemmas.List.{length-set}
-use Rattle.std.proofs.lemmas.Bool.{and_left, and_parts, not-true, cond-true, cond-false}
+use Rattle.std.proofs.lemmas.Bool.{and_left, cond-true, cond-false}
 use Rattle.words.specs.Words.{bit, Lowest}
 use Rattle.words.specs.Sweep.{sweep, Swept}
-use Rattle.words.proofs.Sweeps.{Acts, sweep_starts, sweep_ends, sweep_acts}
-use Rattle.flow.specs.Search.{Ends, searching, found, Search, mark, joined, noted, ended}
+use Rattle.words.proofs.Sweeps.{Acts, sweep_starts, sweep_acts}
+use Rattle.flow.specs.Search.{Ends, searching, found, Search, joined, noted, ended}
 use Rattle.planner.specs.declared.state.Seek.{Seek}
 use Rattle.planner.specs.declared.state.Words.{Words}
 use Rattle.flow.specs.Search.{Tests, going, back_test, backs, out_test, out_act, outs}

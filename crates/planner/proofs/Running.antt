@@ -1,33 +1,32 @@
 -- A run on its way: the code's loop and the run of the theory.
-use Rattle.std.proofs.Common.{◌≡◌, ℕ, zero, suc, pred, ◌+◌, ◌*◌, ◌/◌, ◌%◌, ◌^◌, ◌<◌, ◌≤◌, Bool, true, false, cond, eqb, ◌⊎◌, List, [], length, get_or, sym, refl, ap, ◌∙◌, subst, ap₂, inl, inr, pow-suc, add-one, arith}
+use Rattle.std.proofs.Common.{◌≡◌, ℕ, zero, suc, pred, ◌+◌, ◌*◌, ◌/◌, ◌%◌, ◌^◌, ◌<◌, ◌≤◌, Bool, true, false, cond, eqb, ◌⊎◌, List, [], get_or, sym, refl, ap, ◌∙◌, subst, ap₂, inl, inr, pow-suc, add-one, arith}
 use mathlib.Core.Path.{fun_ext}
 use Rattle.std.proofs.lemmas.Nat.{mul-le}
 use Rattle.std.proofs.lemmas.Bool.{cases_lt}
 use Rattle.words.specs.Words.{bit}
 use Rattle.words.proofs.Digits.{bit_none, bit_zero}
-use Rattle.groups.specs.Group.{Group, Ordered}
-use Rattle.groups.specs.Sums.{Le, above}
+use Rattle.groups.specs.Group.{Ordered}
+use Rattle.groups.specs.Sums.{Le}
 use Rattle.flow.specs.Counts.{sum_n, bit as one}
-use Rattle.flow.specs.Flow.{Task, State}
+use Rattle.flow.specs.Flow.{Task}
 use Rattle.flow.specs.Routes.{augment, held_along, Route}
-use Rattle.flow.specs.Search.{Search, Ends, searching, found, Tests, Way, search_all, trace}
+use Rattle.flow.specs.Search.{Search, searching, found, search_all, trace}
 use Rattle.flow.specs.Told.{told, search_of}
-use Rattle.flow.specs.Runs.{begin, pairs}
-use Rattle.flow.specs.Outcomes.{End, planned, blocked, outgrown, Outcome, outcome, limit, settled, way_to, step_held, verdict}
+use Rattle.flow.specs.Runs.{pairs}
+use Rattle.flow.specs.Outcomes.{limit, settled, way_to, step_held}
 use Rattle.flow.specs.Reached.{Reached}
 use Rattle.flow.proofs.Counting.{sum_n_most, bit_le}
-use Rattle.flow.proofs.Reached.{found_route, reached_step, reached_searching, reached_outgrown, reached_planned, reached_blocked}
-use Rattle.flow.proofs.Settled.{settled_from, unsettled_from, settled_all}
+use Rattle.flow.proofs.Reached.{found_route, reached_step, reached_outgrown, reached_planned, reached_blocked}
+use Rattle.flow.proofs.Settled.{settled_from, settled_all}
 use Rattle.amounts.specs.Kind.{Kind}
-use Rattle.planner.specs.declared.answer.Answer.{Answer}
 use Rattle.planner.specs.declared.answer.Answer.TheVariants.{Plan, Blocked, Outgrown}
 use Rattle.planner.specs.declared.state.Words.{Words}
 use Rattle.planner.specs.declared.state.Seek.{Seek}
-use Rattle.planner.specs.Answers.{word_of, answer_by, posed, outcome_of, Ran}
+use Rattle.planner.specs.Answers.{word_of, answer_by, posed, Ran}
 use Rattle.planner.specs.Finds.{Leads}
-use Rattle.planner.specs.Model.{model, tests, ending}
+use Rattle.planner.specs.Model.{model, tests}
 use Rattle.planner.specs.Step.{InStep}
-use Rattle.planner.specs.Tables.{row, table, state_of}
+use Rattle.planner.specs.Tables.{table, state_of}
 use Rattle.planner.specs.Ways.{trail, least_along, fits_along, writable_along, stepped}
 use Rattle.planner.proofs.Apart.{held_back_along}
 

@@ -1,7 +1,7 @@
 -- The givers with something to give fill the queue.
-use Rattle.std.proofs.Common.{◌≡◌, ℕ, zero, suc, ◌+◌, ◌<◌, ◌≤◌, Bool, true, false, cond, not, ◌&&◌, ◌⊎◌, List, [], ◌∷◌, ◌++◌, length, get_or, take, drop, set, replicate, sym, refl, ap, ◌∙◌, subst, ap₂, inl, inr, add-one, arith, length-append, length-take, take-suc-set}
+use Rattle.std.proofs.Common.{◌≡◌, ℕ, zero, suc, ◌+◌, ◌<◌, Bool, true, false, cond, ◌⊎◌, List, [], ◌∷◌, ◌++◌, length, get_or, take, set, replicate, sym, refl, ap, ◌∙◌, subst, inl, inr, add-one, arith, length-append, length-take, take-suc-set}
 use mathlib.Core.Path.{fun_ext}
-use Rattle.std.proofs.lemmas.List.{get_or-set_same, get_or-set_other, length-set}
+use Rattle.std.proofs.lemmas.List.{get_or-set_same, get_or-set_other}
 use Rattle.std.proofs.lemmas.Bool.{cases_eq}
 use Rattle.words.specs.Words.{bit, Lowest}
 use Rattle.words.specs.Sweep.{sweep, Swept}
@@ -9,7 +9,7 @@ use Rattle.words.proofs.Digits.{bit_zero}
 use Rattle.words.proofs.Sweeps.{Acts, sweep_starts, sweep_ends, sweep_acts}
 use Rattle.flow.specs.Counts.{count, sum_n, bit as one}
 use Rattle.flow.proofs.Counting.{count_most}
-use Rattle.flow.specs.Search.{Ends, searching, Search}
+use Rattle.flow.specs.Search.{searching}
 use Rattle.planner.specs.declared.state.Seek.{Seek}
 use Rattle.planner.specs.declared.state.Words.{Words}
 use Rattle.flow.specs.Search.{Tests, start_test, start_act, starters, fresh}

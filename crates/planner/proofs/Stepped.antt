@@ -1,8 +1,7 @@
 -- The step along a way, put together from its parts.
-use Rattle.std.proofs.Common.{◌≡◌, ℕ, Bool, true, ◌&&◌, List, sym, refl, ap, ◌∙◌, subst, ap₂}
+use Rattle.std.proofs.Common.{◌≡◌, ℕ, true, List, sym, ap, ◌∙◌}
 use Rattle.std.proofs.lemmas.Bool.{and_parts}
 use Rattle.groups.specs.Sums.{minus}
-use Rattle.flow.specs.Flow.{State}
 use Rattle.flow.specs.Routes.{push, taken, held_along}
 use Rattle.flow.specs.Search.{Way}
 use Rattle.amounts.specs.Kind.{Kind}

@@ -1,17 +1,16 @@
 -- A search that ends in its first turn.
-use Rattle.std.proofs.Common.{◌≡◌, ℕ, zero, suc, ◌<◌, ◌≤◌, Bool, true, false, cond, ◌&&◌, ◌⊎◌, List, [], ◌∷◌, length, get_or, set, replicate, sym, refl, ap, ◌∙◌, subst, inl, inr, arith}
+use Rattle.std.proofs.Common.{◌≡◌, ℕ, zero, suc, ◌<◌, ◌≤◌, true, false, ◌&&◌, ◌⊎◌, List, [], ◌∷◌, get_or, set, replicate, sym, refl, ap, ◌∙◌, subst, inl, inr, arith}
 use Rattle.std.proofs.lemmas.List.{get_or-set_same, get_or-set_other, length-set}
 use Rattle.std.proofs.lemmas.Bool.{and_parts, cases_eq, cases_lt, cond-true}
 use Rattle.words.specs.Words.{bit, Lowest}
 use Rattle.flow.specs.Routes.{Hop}
-use Rattle.flow.specs.Search.{Tests, Search, found, Way, trace, search_all}
+use Rattle.flow.specs.Search.{Tests, Search, found, trace, search_all}
 use Rattle.flow.proofs.AtOnce.{at_once}
 use Rattle.flow.proofs.Visits.{clash}
 use Rattle.planner.specs.declared.state.Seek.{Seek}
 use Rattle.planner.specs.declared.state.Words.{Words}
 use Rattle.planner.specs.Finds.{Leads, Straight}
 use Rattle.planner.specs.Model.{model, tests, Sound, Fitted}
-use Rattle.planner.specs.Ways.{trail}
 use Rattle.planner.proofs.Starts.{zeros}
 
 -- a way back from a giver with something to give ends there

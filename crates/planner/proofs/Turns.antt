@@ -1,11 +1,10 @@
 -- One giver after another leaves the queue.
-use Rattle.std.proofs.Common.{◌≡◌, ℕ, zero, suc, ◌+◌, ◌<◌, ◌≤◌, Bool, true, false, cond, not, ◌&&◌, ◌⊎◌, List, [], ◌∷◌, ◌++◌, length, get_or, take, drop, sym, refl, ap, ◌∙◌, subst, ap₂, inl, inr, add-one, arith, length-take, get_or-take}
+use Rattle.std.proofs.Common.{◌≡◌, ℕ, zero, suc, ◌+◌, ◌<◌, ◌≤◌, ◌⊎◌, [], ◌∷◌, get_or, take, drop, sym, refl, ap, ◌∙◌, subst, inl, inr, add-one, arith, length-take, get_or-take}
 use Rattle.std.proofs.lemmas.List.{drop_more, drop_all}
 use Rattle.std.proofs.lemmas.Bool.{cases_lt}
 use Rattle.words.specs.Words.{bit}
-use Rattle.flow.specs.Counts.{count}
 use Rattle.flow.proofs.Counting.{count_most}
-use Rattle.flow.specs.Search.{Ends, searching, found, Search, popped}
+use Rattle.flow.specs.Search.{Ends, searching, found, Search}
 use Rattle.planner.specs.declared.state.Seek.{Seek}
 use Rattle.planner.specs.declared.state.Words.{Words}
 use Rattle.flow.specs.Search.{Tests, outs, turn_at, turns, fresh, search_all}

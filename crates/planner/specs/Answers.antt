@@ -1,5 +1,5 @@
 -- The answer of a plan call, from the outcome of a run.
-use Rattle.std.specs.Prelude.{◌≡◌, ℕ, zero, suc, ◌+◌, ◌*◌, Bool, true, false, cond, List, slice_index}
+use Rattle.std.specs.Prelude.{◌≡◌, ℕ, zero, suc, ◌+◌, ◌*◌, Bool, cond, List, slice_index}
 use Rattle.words.specs.Words.{bit}
 use Rattle.flow.specs.Flow.{Task}
 use Rattle.flow.specs.Outcomes.{End, planned, blocked, outgrown, Outcome, outcome}
@@ -7,7 +7,7 @@ use Rattle.amounts.specs.Kind.{Kind}
 use Rattle.planner.specs.declared.answer.Answer.{Answer}
 use Rattle.planner.specs.declared.answer.Answer.TheVariants.{Plan, Blocked, Outgrown}
 use Rattle.planner.specs.declared.state.Words.{Words}
-use Rattle.planner.specs.Tables.{row, state_of}
+use Rattle.planner.specs.Tables.{state_of}
 
 -- the number whose lowest m binary digits are the set, member k at place k
 unfoldable pub word_of : ℕ → (ℕ → Bool) → ℕ

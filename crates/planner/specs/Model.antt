@@ -1,5 +1,5 @@
 -- What the words and arrays of a search stand for.
-use Rattle.std.specs.Prelude.{◌≡◌, ℕ, zero, suc, ◌+◌, ◌*◌, ◌<◌, ◌≤◌, Bool, true, false, cond, not, ◌&&◌, List, [], ◌∷◌, ◌++◌, length, take, drop, Some, None, Option, slice_index}
+use Rattle.std.specs.Prelude.{◌≡◌, ℕ, ◌<◌, ◌≤◌, false, List, length, take, drop, Some, None, Option, slice_index}
 use Rattle.words.specs.Words.{bit}
 use Rattle.flow.specs.Counts.{count}
 use Rattle.flow.specs.Search.{Ends, searching, found, Search}

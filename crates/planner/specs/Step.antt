@@ -1,5 +1,5 @@
 -- The words of a search in step with the tables of amounts.
-use Rattle.std.specs.Prelude.{◌≡◌, ℕ, Bool, true, List, length, slice_index}
+use Rattle.std.specs.Prelude.{◌≡◌, ℕ, true, List, length, slice_index}
 use Rattle.words.specs.Words.{bit}
 use Rattle.groups.specs.Sums.{above}
 use Rattle.amounts.specs.Kind.{Kind}

@@ -1,5 +1,5 @@
 -- The tables of a plan call, read as group elements by giver and receiver.
-use Rattle.std.specs.Prelude.{◌≡◌, ℕ, zero, suc, ◌+◌, ◌*◌, Bool, true, false, cond, ◌&&◌, List, [], ◌∷◌, nat_lt}
+use Rattle.std.specs.Prelude.{ℕ, zero, suc, ◌+◌, ◌*◌, Bool, true, cond, ◌&&◌, List, [], ◌∷◌, nat_lt}
 use Rattle.amounts.specs.Kind.{Kind}
 use Rattle.flow.specs.Flow.{State}
 

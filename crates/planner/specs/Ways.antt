@@ -1,5 +1,5 @@
 -- The way that a search found, and the step along it.
-use Rattle.std.specs.Prelude.{◌≡◌, ℕ, ◌<◌, Bool, true, false, ◌&&◌, List, [], ◌∷◌, slice_index}
+use Rattle.std.specs.Prelude.{ℕ, Bool, ◌&&◌, List, [], ◌∷◌, slice_index}
 use Rattle.groups.specs.Group.{Group}
 use Rattle.groups.specs.Sums.{minus}
 use Rattle.flow.specs.Flow.{State}

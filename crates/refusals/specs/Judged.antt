@@ -1,5 +1,5 @@
 -- What a call that may be refused answers, and what it leaves behind.
-use Rattle.std.specs.Prelude.{Bool, true, false, cond, List, [], ◌∷◌, Some, None, Ok, Err, Option, Result}
+use Rattle.std.specs.Prelude.{Bool, cond, List, [], ◌∷◌, Some, None, Ok, Err, Option, Result}
 
 -- the first refusal of a list whose test holds, in the list's order
 abbrev pub first_of : {E : Type 0} → List (Bool × E) → Option E

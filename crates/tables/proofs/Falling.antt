@@ -1,5 +1,5 @@
 -- Laws of the yearly fall. All but `fall-below` rest on that law, and not on the rounding.
-use Rattle.std.proofs.Common.{◌≡◌, ℕ, zero, suc, ◌+◌, ◌-◌, ◌<◌, ◌≤◌, true, leb, refl, add-zero, add-suc, mul-le-mul_left, arith}
+use Rattle.std.proofs.Common.{◌≡◌, ℕ, zero, suc, ◌+◌, ◌-◌, ◌<◌, ◌≤◌, true, leb, add-zero, add-suc, mul-le-mul_left, arith}
 use Rattle.std.proofs.lemmas.Bool.{and_parts, and_from, leb-true, le-leb}
 use Rattle.tables.specs.Falls.{fall_of, odds_left, odds_after}
 use Rattle.tables.specs.Ranges.{odds_fit, fall_fits}

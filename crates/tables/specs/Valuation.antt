@@ -1,5 +1,5 @@
 -- Valuation: the rates of an age in a dated table, and what they mean.
-use Rattle.std.specs.Prelude.{◌≡◌, ℕ, ◌+◌, ◌-◌, ◌≤◌, List, ℤ, pos, ◌+ℤ◌, neg_ℤ, ◌≤ℤ◌, None, Ok, Err, Option, Result}
+use Rattle.std.specs.Prelude.{◌≡◌, ℕ, ◌+◌, ◌-◌, ◌≤◌, List, pos, ◌+ℤ◌, neg_ℤ, ◌≤ℤ◌, Err, Option, Result}
 use Rattle.std.specs.Option.{option_map, ok_or}
 use Rattle.std.specs.Option as Options
 use Rattle.std.specs.Result as Results

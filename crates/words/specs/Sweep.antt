@@ -1,5 +1,5 @@
 -- A sweep over the numbers below a bound, in rising number, that acts where a test of the state holds.
-use Rattle.std.specs.Prelude.{◌≡◌, ℕ, zero, suc, ◌<◌, ◌≤◌, Bool, true, false, cond}
+use Rattle.std.specs.Prelude.{◌≡◌, ℕ, zero, suc, ◌<◌, ◌≤◌, Bool, false, cond}
 use Rattle.words.specs.Words.{bit}
 
 module _ {S : Type 0} (test : ℕ → S → Bool) (act : ℕ → S → S) where

@@ -1,4 +1,4 @@
-use Rattle.std.proofs.Common.{◌≡◌, ℕ, Some, None, sym, ◌∙◌, subst, arith}
+use Rattle.std.proofs.Common.{◌≡◌, ℕ, None, subst, arith}
 use Rattle.planner.specs.Calls.{plan_refusal}
 use Rattle.circles.specs.Answered.{Answered}
 use Rattle.circles.proofs.Permissions.{words_all_fit, asked_posed, answered, unrefused}

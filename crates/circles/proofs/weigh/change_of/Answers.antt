@@ -1,4 +1,4 @@
-use Rattle.std.proofs.Common.{◌≡◌, pos, ◌*ℤ◌, sym, ap, ◌∙◌, subst, w64, SFits, to_z, of_z}
+use Rattle.std.proofs.Common.{pos, ◌*ℤ◌, sym, ap, ◌∙◌, subst, w64, SFits, to_z, of_z}
 use Rattle.std.proofs.lemmas.Int.{to_z-of_z}
 use Rattle.circles.proofs.Products.{change_low, change_high, product_fits, factors}
 use Rattle.circles.proofs.weigh.change_of.Goals as goal

@@ -1,4 +1,4 @@
-use Rattle.std.proofs.Common.{◌≡◌, ◌&&◌, ltb, get_or, sym, refl, ap, ◌∙◌, arith}
+use Rattle.std.proofs.Common.{◌&&◌, ltb, get_or, sym, refl, ap, ◌∙◌, arith}
 use Rattle.words.specs.Words.{bit}
 use Rattle.words.proofs.Digits.{bit_zero}
 use Rattle.std.proofs.lemmas.Bool.{and_left, le-ltb}

@@ -1,4 +1,4 @@
-use Rattle.std.proofs.Common.{◌≡◌, ℕ, ◌<◌, ◌≤◌, ◌&&◌, ltb, length, get_or}
+use Rattle.std.proofs.Common.{◌≡◌, ℕ, ◌&&◌, ltb, length, get_or}
 use Rattle.words.specs.Words.{bit}
 use Rattle.planner.proofs.call.rules.Given as goal
 

@@ -1,9 +1,9 @@
-use Rattle.std.proofs.Common.{◌≡◌, sym, refl, ap, subst, arith, rules}
+use Rattle.std.proofs.Common.{refl, subst, rules}
 use Rattle.words.proofs.Sweeps.{sweep_ends}
 use Rattle.flow.specs.Search.{searching, joined}
 use Rattle.flow.specs.Search.{back_test}
 use Rattle.planner.specs.Model.{model, tests}
-use Rattle.planner.proofs.Backs.{Backing, backs_start, backs_within, backs_room, backs_next, backs_sound}
+use Rattle.planner.proofs.Backs.{Backing, backs_start, backs_room, backs_next, backs_sound}
 use Rattle.planner.proofs.hunt.back.Goals as goal
 
 pub loop-k-init : goal.loop-k-init

@@ -1,4 +1,4 @@
-use Rattle.std.proofs.Common.{◌≡◌, ◌+◌, ◌<◌, ◌≤◌, sym, refl, ap, ◌∙◌, subst, arith, rules}
+use Rattle.std.proofs.Common.{◌<◌, sym, ap, ◌∙◌, subst, arith, rules}
 use Rattle.flow.specs.Search.{searching}
 use Rattle.flow.specs.Search.{turns, fresh, outs}
 use Rattle.planner.specs.Model.{model, tests}

@@ -1,4 +1,4 @@
-use Rattle.std.proofs.Common.{◌≡◌, take, sym, refl, ap, ◌∙◌, subst, arith, rules}
+use Rattle.std.proofs.Common.{take, refl, ◌∙◌, subst, arith}
 use Rattle.std.proofs.lemmas.List.{length-set}
 use Rattle.planner.proofs.Starts.{Starting, starts_start, starts_room, starts_next, starts_members, begun_model, begun_sound}
 use Rattle.planner.proofs.hunt.start.Goals as goal

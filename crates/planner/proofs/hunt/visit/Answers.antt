@@ -1,4 +1,4 @@
-use Rattle.std.proofs.Common.{◌≡◌, sym, refl, ap, ◌∙◌, subst, arith, rules}
+use Rattle.std.proofs.Common.{sym, refl, ◌∙◌, subst}
 use Rattle.words.proofs.Sweeps.{sweep_ends}
 use Rattle.flow.specs.Search.{searching}
 use Rattle.flow.specs.Search.{out_test, out_act}

@@ -1,9 +1,9 @@
-use Rattle.std.proofs.Common.{◌≡◌, ◌^◌, ◌<◌, true, false, sym, refl, ap, ◌∙◌, subst, arith, rules}
+use Rattle.std.proofs.Common.{◌^◌, ◌<◌, true, false, sym, refl, subst, arith, rules}
 use Rattle.flow.proofs.Reached.{reached_start}
 use Rattle.flow.specs.Reached.{Reached}
 use Rattle.planner.specs.Answers.{posed, Ran}
 use Rattle.planner.specs.Finds.{Finds}
-use Rattle.planner.specs.Model.{model, ending, Within}
+use Rattle.planner.specs.Model.{Within}
 use Rattle.planner.specs.Ways.{trail, least_along}
 use Rattle.planner.specs.Tables.{row, state_of}
 use Rattle.planner.proofs.Entries.{row_held}

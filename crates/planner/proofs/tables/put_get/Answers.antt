@@ -1,4 +1,4 @@
-use Rattle.std.proofs.Common.{◌≡◌, cond, eqb, get_or, set, sym, refl, ap, ◌∙◌, subst}
+use Rattle.std.proofs.Common.{cond, eqb, sym, refl, ap, ◌∙◌, subst}
 use Rattle.words.specs.Words.{bit}
 use Rattle.planner.specs.Step.{InStep}
 use Rattle.planner.proofs.Keeps.{get_keeps}

@@ -1,4 +1,4 @@
-use Rattle.std.proofs.Common.{◌≡◌, ◌<◌, get_or, sym, refl, ap, ◌∙◌, subst, arith}
+use Rattle.std.proofs.Common.{◌<◌, get_or, sym, refl, ap, ◌∙◌, subst, arith}
 use Rattle.words.specs.Words.{bit}
 use Rattle.planner.specs.Tables.{state_of}
 use Rattle.planner.proofs.Walks.{on_found, on_over, moved_start, moved_end, moved_next, lower_room, writable_on}

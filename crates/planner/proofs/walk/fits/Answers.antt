@@ -1,4 +1,4 @@
-use Rattle.std.proofs.Common.{◌≡◌, ◌+◌, ◌&&◌, get_or, sym, refl, ap, ◌∙◌, subst, ap₂, arith}
+use Rattle.std.proofs.Common.{◌+◌, ◌&&◌, get_or, sym, refl, ap, ◌∙◌, subst, ap₂, arith}
 use Rattle.groups.specs.Sums.{minus}
 use Rattle.planner.specs.Tables.{state_of}
 use Rattle.planner.proofs.Amounts.{transfer_at, give_at, get_at}

@@ -1,4 +1,4 @@
-use Rattle.std.proofs.Common.{[], get_or, sym, ◌∙◌, arith}
+use Rattle.std.proofs.Common.{[], get_or, sym, arith}
 use Rattle.planner.specs.Tables.{state_of}
 use Rattle.planner.proofs.Amounts.{transfer_at, give_at, get_at}
 use Rattle.planner.proofs.Walks.{on_start, on_found, on_over, least_next, least_end}

@@ -1,5 +1,5 @@
 use Rattle.std.proofs.Common.{◌≡◌, ℕ, ◌-◌, ◌<◌, ◌≤◌, true, sym, ap, ◌∙◌, subst, add-one, arith}
-use Rattle.tables.specs.Falls.{fall_of, odds_left, odds_after}
+use Rattle.tables.specs.Falls.{fall_of, odds_left}
 use Rattle.tables.specs.Ranges.{odds_fit}
 use Rattle.tables.proofs.Falling.{fall_within, left_fits}
 use Rattle.tables.proofs.falls.odds_left.Goals as goal

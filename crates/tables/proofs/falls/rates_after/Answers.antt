@@ -1,9 +1,8 @@
 use Rattle.std.proofs.Common.{◌≡◌, ℕ, ◌<◌, ◌≤◌, ℤ, pos, ◌-ℤ◌, neg_ℤ, sym, ap, ◌∙◌, subst, ap₂, arith, w32, to_z, of_z}
 use Rattle.std.proofs.lemmas.Int.{ints}
 use Rattle.std.proofs.lemmas.Bool.{and_parts}
-use Rattle.tables.specs.declared.row.Rates.{Rates}
 use Rattle.tables.specs.Falls.{fall_of}
-use Rattle.tables.specs.Valuation.{rates_after, Valued}
+use Rattle.tables.specs.Valuation.{Valued}
 use Rattle.tables.proofs.Falling.{fall_within, odds_high}
 use Rattle.tables.proofs.Valuing.{valued}
 use Rattle.tables.proofs.falls.rates_after.Goals as goal

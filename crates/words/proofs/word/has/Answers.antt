@@ -1,4 +1,4 @@
-use Rattle.std.proofs.Common.{◌≡◌, ◌/◌, ◌^◌, eqb, sym, ap, ◌∙◌}
+use Rattle.std.proofs.Common.{◌/◌, ◌^◌, eqb, sym, ap, ◌∙◌}
 use lib.Bits.{and_mask}
 use Rattle.words.proofs.Digits.{bit_shift}
 use Rattle.words.proofs.word.has.Goals as goal

@@ -1,4 +1,4 @@
-use Rattle.std.proofs.Common.{◌≡◌, ℕ, ◌≤◌, List, [], ◌∷◌, ◌++◌, length, ℤ, Ok, decimal, Result, sym, refl, ap, ◌∙◌, subst, append_assoc, arith, length-append, w64, SFits, to_z, of_z, rules}
+use Rattle.std.proofs.Common.{◌≡◌, ℕ, ◌≤◌, List, [], ◌∷◌, ◌++◌, length, Ok, decimal, Result, sym, ap, ◌∙◌, subst, append_assoc, arith, length-append, w64, SFits, rules}
 use Rattle.std.specs.Fmt.{signed_decimal}
 use Rattle.std.proofs.lemmas.Int.{to_z-of_z}
 use Rattle.refusals.specs.declared.Refusal.{Refusal}

@@ -1,4 +1,4 @@
-use Rattle.std.proofs.Common.{◌≡◌, sym, subst}
+use Rattle.std.proofs.Common.{sym, subst}
 use Rattle.circles.specs.Sound.{Sound}
 use Rattle.circles.proofs.Ghost.{is, fields}
 use Rattle.circles.proofs.Keeps.{bar_sound}

@@ -1,4 +1,4 @@
-use Rattle.std.proofs.Common.{◌≡◌, false, ap}
+use Rattle.std.proofs.Common.{false, ap}
 use Rattle.circles.specs.declared.members.Members.{Members}
 use Rattle.circles.specs.declared.state.State.{State}
 use Rattle.circles.specs.Calls.{no_transfers}

@@ -1,4 +1,4 @@
-use Rattle.std.proofs.Common.{leb, Some, ◌∙◌, arith, length-set}
+use Rattle.std.proofs.Common.{arith, length-set}
 use Rattle.std.proofs.lemmas.Bool.{and_from, le-leb}
 use Rattle.tables.proofs.Entries.{fit_set}
 use Rattle.tables.proofs.Falling.{odds_fit_within}
