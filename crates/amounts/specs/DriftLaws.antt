@@ -1,18 +1,16 @@
--- Drift keeps the laws of a kind, and is not closed below.
-use Rattle.std.specs.Prelude.{◌≡◌, ℕ, ◌+◌, ◌-◌, ◌≤◌, true, false, ◌&&◌, ◌∷◌, length, ℤ, pos, negsuc, ◌+ℤ◌, ◌-ℤ◌, neg_ℤ, decimal, int_le, refl}
-use Rattle.std.proofs.Common.{one-add, arith, ap, ap₂, subst, sym, ◌∙◌, length-append, to_z, of_z}
+-- Drift keeps the laws of a kind.
+use Rattle.std.specs.Prelude.{◌≡◌, ◌+◌, ◌≤◌, true, ◌&&◌, ◌∷◌, length, ℤ, pos, negsuc, neg_ℤ, decimal, int_le, refl}
+use Rattle.std.proofs.Common.{one-add, arith, ap, subst, sym, ◌∙◌, length-append}
 use Rattle.std.specs.Int.Signed.{mag}
-use Rattle.std.specs.Int.{w64}
 use Rattle.std.specs.Fmt.{signed_decimal}
 use Rattle.std.proofs.lemmas.Fmt.{length-decimal-le, length_signed_le}
 use Rattle.std.proofs.lemmas.Int.{ints}
-use Rattle.std.proofs.lemmas.Bool.{and_from, and_parts, and_right, leb-true, false≢true}
+use Rattle.std.proofs.lemmas.Bool.{and_parts, leb-true, false≢true}
 use Rattle.groups.specs.Groups.{whole, Pair}
-use Rattle.groups.specs.Sums.{minus}
 use Rattle.groups.proofs.PairOrder.{pairs_ordered}
 use Rattle.groups.proofs.WholeOrder.{whole_ordered}
 use Rattle.amounts.specs.declared.drift.Drift.{Drift}
-use Rattle.amounts.specs.Kind.{Lawful, StandsFor, sound}
+use Rattle.amounts.specs.Kind.{Lawful}
 use Rattle.amounts.specs.Drifts.{drift, drift_pair, held_drift}
 
 -- the parts of what is held are in range
@@ -22,6 +20,7 @@ pub record InRange (e : Pair whole whole) : Type 0 where
   pub change_low : int_le (neg_ℤ (pos 1000000000000000000)) e.lower ≡ true
   pub change_high : int_le e.lower (pos 1000000000000000000) ≡ true
 
+-- and so what is held has its parts in range
 pub in_range : (e : Pair whole whole) → held_drift e ≡ true → InRange e
 in_range e h =
     let both = and_parts (int_le (pos 0) e.upper && int_le e.upper (pos 1000000000000000000)) (int_le (neg_ℤ (pos 1000000000000000000)) e.lower && int_le e.lower (pos 1000000000000000000)) h in
@@ -29,6 +28,7 @@ in_range e h =
     let change = and_parts (int_le (neg_ℤ (pos 1000000000000000000)) e.lower) (int_le e.lower (pos 1000000000000000000)) both.1 in
     record { weight_low = weight.0; weight_high = weight.1; change_low = change.0; change_high = change.1 }
 
+-- what is held is some value
 held_value : (e : Pair whole whole) → held_drift e ≡ true → (d : Drift) × (held_drift (drift_pair d) ≡ true) × (drift_pair d ≡ e)
 held_value e h = go e.upper refl
   where
@@ -38,16 +38,20 @@ held_value e h = go e.upper refl
         (record { weight = n; change = e.lower }, subst (λ p. held_drift p ≡ true) (sym same) h, same)
     go (negsuc n) q = absurd (false≢true (subst (λ u. int_le (pos 0) u ≡ true) q (in_range e h).weight_low))
 
+-- a value has a weight of at most 10^18
 pub weight_most : (d : Drift) → drift.value d ≡ true → d.weight ≤ 1000000000000000000
 weight_most d h = leb-true d.weight 1000000000000000000 (in_range (drift_pair d) h).weight_high
 
+-- and a change of at most 10^18, up or down
 pub change_most : (z : ℤ) → int_le (neg_ℤ (pos 1000000000000000000)) z ≡ true → int_le z (pos 1000000000000000000) ≡ true → mag z ≤ 1000000000000000000
 change_most (pos n) low high = leb-true n 1000000000000000000 high
 change_most (negsuc n) low high = grind (arith, ints)
 
+-- a text is as long as its two numbers and the space between them
 pub text_length : (d : Drift) → length (drift.text d) ≡ length (decimal d.weight) + (1 + length (signed_decimal d.change))
 text_length d = length-append (decimal d.weight) (32 ∷ signed_decimal d.change) ∙ ap (λ n. length (decimal d.weight) + n) (sym (one-add (length (signed_decimal d.change))))
 
+-- which is 40 bytes at most
 text_most : (d : Drift) → drift.value d ≡ true → length (drift.text d) ≤ 40
 text_most d h =
     let weight = weight_most d h in
@@ -57,6 +61,7 @@ text_most d h =
     let second = length_signed_le 19 d.change (omega arith) (omega arith) in
     subst (λ n. n ≤ 40) (sym (text_length d)) (omega arith)
 
+-- what the kind drift has to show
 pub drift_lawful : Lawful drift
 drift_lawful =
     record {
@@ -67,47 +72,3 @@ drift_lawful =
       text_some = λ d h. subst (λ n. 1 ≤ n) (sym (text_length d)) (omega arith);
       text_most = text_most;
     }
-
--- the sum and the difference of two changes in range fit the machine's numbers
-module _ (x y : ℤ) (a : int_le (neg_ℤ (pos 1000000000000000000)) x ≡ true) (b : int_le x (pos 1000000000000000000) ≡ true)
-    (c : int_le (neg_ℤ (pos 1000000000000000000)) y ≡ true) (d : int_le y (pos 1000000000000000000) ≡ true) where
-  sum_fits : to_z w64 (of_z w64 (to_z w64 (of_z w64 x) +ℤ to_z w64 (of_z w64 y))) ≡ x +ℤ y
-  sum_fits = grind (arith, ints)
-
-  difference_fits : to_z w64 (of_z w64 (to_z w64 (of_z w64 x) -ℤ to_z w64 (of_z w64 y))) ≡ x +ℤ neg_ℤ y
-  difference_fits = grind (arith, ints)
-
-less : (m n : ℕ) → n ≤ m → pos (m - n) ≡ pos m +ℤ neg_ℤ (pos n)
-less m n h = omega (arith, ints)
-
-module _ (a b : Drift) (p : drift.value a ≡ true) (q : drift.value b ≡ true) where
-  parts : InRange (drift_pair a)
-  parts = in_range (drift_pair a) p
-
-  others : InRange (drift_pair b)
-  others = in_range (drift_pair b) q
-
-  pub added : drift_pair (record { weight = a.weight + b.weight; change = to_z w64 (of_z w64 (to_z w64 (of_z w64 a.change) +ℤ to_z w64 (of_z w64 b.change))) })
-      ≡ drift.group.plus (drift_pair a) (drift_pair b)
-  added =
-      ap (λ (z : ℤ). record { upper = pos (a.weight + b.weight); lower = z })
-      (sum_fits a.change b.change parts.change_low parts.change_high others.change_low others.change_high)
-
-  pub subtracted : b.weight ≤ a.weight
-      → drift_pair (record { weight = a.weight - b.weight; change = to_z w64 (of_z w64 (to_z w64 (of_z w64 a.change) -ℤ to_z w64 (of_z w64 b.change))) })
-      ≡ minus drift.group (drift_pair a) (drift_pair b)
-  subtracted h =
-      ap₂ (λ (y z : ℤ). record { upper = y; lower = z }) (less a.weight b.weight h)
-      (difference_fits a.change b.change parts.change_low parts.change_high others.change_low
-      others.change_high)
-
-  module _ (total : Drift) (e : Pair whole whole) (same : drift_pair total ≡ e) where
-    pub stands : drift.value total ≡ true → (sound drift a b e ≡ true) × StandsFor drift total e
-    stands h = (
-      and_from (drift.value a && drift.value b) (held_drift e) (and_from (drift.value a) (drift.value b) p q)
-          (subst (λ z. held_drift z ≡ true) same h),
-      (h, same),
-    )
-
-    pub unheld : drift.value total ≡ false → sound drift a b e ≡ false
-    unheld h = and_right (drift.value a && drift.value b) (held_drift e) (subst (λ z. held_drift z ≡ false) same h)

@@ -13,7 +13,7 @@ use Rattle.amounts.specs.Drifts.{drift}
 use Rattle.amounts.specs.declared.drift.Drift.{Drift}
 use Rattle.amounts.specs.Moneys.{money}
 use Rattle.amounts.specs.declared.money.Money.{Money}
-use Rattle.amounts.specs.MoneyLaws.{money_closed_below}
+use Rattle.amounts.proofs.MoneyBelow.{money_closed_below}
 use Rattle.planner.specs.declared.answer.Answer.{Answer}
 use Rattle.planner.specs.declared.answer.Answer.TheVariants.{Plan, Blocked, Outgrown}
 use Rattle.planner.specs.Answers.{answer_by}

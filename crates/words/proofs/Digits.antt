@@ -1,6 +1,6 @@
 -- The laws of a word's places.
 use Rattle.std.proofs.Common.{◌≡◌, ℕ, zero, suc, ◌-◌, ◌*◌, ◌/◌, ◌%◌, ◌^◌, ◌<◌, ◌≤◌, min, max, Bool, true, false, cond, not, ◌&&◌, ◌||◌, eqb, ltb, ◌⊎◌, sym, refl, ap, ◌∙◌, subst, ap₂, inl, inr, pow-suc, arith, pow_pos, shr-shr}
-use lib.Bits.{bit_and, bit_or, and_step, or_step, and_self, and_le_r}
+use lib.Bits.{bit_and, bit_or, and_step, or_step, and_self, and_le_r, and_mask}
 use lib.Pow.{pow-lt}
 use Rattle.std.proofs.lemmas.Nat.{one_shl}
 use lib.Count.{count_trailing_zeros, under}
@@ -109,12 +109,26 @@ bit_first (suc n) (suc j) =
     same (inl e) = lt-ltb j n e ∙ sym (lt-ltb (suc j) (suc n) (omega arith))
     same (inr e) = le-ltb j n e ∙ sym (le-ltb (suc j) (suc n) (omega arith))
 
+-- the places below 64, and those below a number under 64
+pub all_places : (n j : ℕ) → n ≡ 64 → bit (2 ^ 64 - 1) j ≡ ltb j n
+all_places n j e = bit_first 64 j ∙ ap (ltb j) (sym e)
+
+pub first_places : (n j : ℕ) → n < 64 → bit (1 * 2 ^ n % 2 ^ 64 - 1) j ≡ ltb j n
+first_places n j h = ap (λ v. bit (v - 1) j) (one_shl n 64 h) ∙ bit_first n j
+
+pub first_number : (n : ℕ) → n < 64 → 1 * 2 ^ n % 2 ^ 64 - 1 ≡ 2 ^ n - 1
+first_number n h = ap (λ v. v - 1) (one_shl n 64 h)
+
 pub bit_shift : (w k : ℕ) → bit w k ≡ eqb (w / 2 ^ k % 2) 1
 unfolding bit
 bit_shift w zero = ap (λ v. eqb (v % 2) 1) (omega arith)
 bit_shift w (suc k) = bit_shift (w / 2) k ∙ ap (λ v. eqb (v % 2) 1) (shr-shr w 1 k ∙ ap (λ m. w / 2 ^ m) (omega arith))
 
 -- a word with no place is zero
+-- the digit at place k, shifted to the lowest
+pub digit_at : (w k : ℕ) → eqb (bit_and (w / 2 ^ k) 1) 1 ≡ bit w k
+digit_at w k = ap (λ v. eqb v 1) (and_mask (w / 2 ^ k) 1) ∙ sym (bit_shift w k)
+
 pub bit_none : (m w : ℕ) → w < 2 ^ m → ((k : ℕ) → k < m → bit w k ≡ false) → w ≡ 0
 unfolding bit
 bit_none zero w h f = omega arith

@@ -1,7 +1,7 @@
 -- A word is the number of its own places.
 use Rattle.std.proofs.Common.{◌≡◌, ℕ, zero, suc, ◌+◌, ◌*◌, ◌/◌, ◌%◌, ◌^◌, ◌<◌, Bool, cond, eqb, sym, refl, ap, ◌∙◌, ap₂, pow-suc, arith}
 use mathlib.Core.Path.{fun_ext}
-use Rattle.words.specs.Words.{bit, word_of}
+use Rattle.words.specs.Words.{bit, word_of, marked}
 
 -- a word is the number of its own places
 pub word_same : (m v : ℕ) → v < 2 ^ m → word_of m (bit v) ≡ v
@@ -23,3 +23,7 @@ word_same (suc m) v h = ap₂ (λ (a b : ℕ). a + 2 * b) (digit (v % 2) (omega 
 -- a word whose places are those of a set is the number of the set
 pub word_of_set : (m v : ℕ) (S : ℕ → Bool) → v < 2 ^ m → ((k : ℕ) → bit v k ≡ S k) → v ≡ word_of m S
 word_of_set m v S h e = sym (word_same m v h) ∙ ap (word_of m) (fun_ext e)
+
+-- a word with the places of a marked word is that word
+pub is_marked : (v w k : ℕ) (on : Bool) → v < 2 ^ 64 → ((j : ℕ) → bit v j ≡ cond (eqb j k) on (bit w j)) → v ≡ marked w k on
+is_marked v w k on h are = word_of_set 64 v (λ j. cond (eqb j k) on (bit w j)) h are

@@ -14,6 +14,8 @@ fn lowest(w: u64) -> usize
 pub struct Places(pub u64);
 
 impl Places {
+    // The lowest place that is left, which is then no longer there.
+    #[tactic(auto, using(crate::proofs::Digits::lowest_place))]
     pub fn next(&mut self) -> Option<usize>
         ensures { MatchOption result (self.old.0 ≡ 0) (λ k. Lowest self.old.0 k self.new.0) }
     {

@@ -2,6 +2,7 @@ ghost use Rattle.std.specs.Prelude.{◌≡◌, ℕ, ◌+◌, ◌-◌, ◌*◌, �
 ghost use Rattle.words.specs.Words.{bit, marked};
 
 // Whether place k is taken.
+#[tactic(auto, using(crate::proofs::Digits::digit_at))]
 pub fn has(w: u64, k: usize) -> bool
     requires { k < 64 }
     ensures { result ≡ bit w k }
@@ -10,6 +11,7 @@ pub fn has(w: u64, k: usize) -> bool
 }
 
 // The word with place k taken.
+#[tactic(auto, using(crate::proofs::Digits::with_word))]
 pub fn with(w: u64, k: usize) -> u64
     requires { k < 64 }
     ensures { (j : ℕ) → bit result j ≡ (if nat_eq j k then true else bit w j) }
@@ -18,6 +20,7 @@ pub fn with(w: u64, k: usize) -> u64
 }
 
 // The word with place k left out.
+#[tactic(auto, using(crate::proofs::Digits::without_word))]
 pub fn without(w: u64, k: usize) -> u64
     requires { k < 64 }
     ensures { (j : ℕ) → bit result j ≡ (if nat_eq j k then false else bit w j) }
@@ -26,6 +29,7 @@ pub fn without(w: u64, k: usize) -> u64
 }
 
 // The places of a that b does not take.
+#[tactic(auto, using(crate::proofs::Digits::less_word))]
 pub fn except(a: u64, b: u64) -> u64
     ensures { (j : ℕ) → bit result j ≡ (bit a j && not (bit b j)) }
 {
@@ -33,6 +37,7 @@ pub fn except(a: u64, b: u64) -> u64
 }
 
 // The places that both take.
+#[tactic(auto, using(crate::proofs::Digits::bit_of_and))]
 pub fn both(a: u64, b: u64) -> u64
     ensures { (j : ℕ) → bit result j ≡ (bit a j && bit b j) }
 {
@@ -40,6 +45,7 @@ pub fn both(a: u64, b: u64) -> u64
 }
 
 // The places below n.
+#[tactic(auto, using(crate::proofs::Digits::all_places, crate::proofs::Digits::first_places, crate::proofs::Digits::first_number))]
 pub fn first(n: usize) -> u64
     requires { n ≤ 64 }
     ensures places { (j : ℕ) → bit result j ≡ nat_lt j n }
@@ -48,6 +54,7 @@ pub fn first(n: usize) -> u64
     if n == 64 { u64::MAX } else { (1 << n) - 1 }
 }
 
+// The word with place k taken or left out, by its places alone.
 fn marks(w: u64, k: usize, on: bool) -> u64
     requires { k < 64 }
     ensures { (j : ℕ) → bit result j ≡ (if nat_eq j k then on else bit w j) }

@@ -1,5 +1,5 @@
 use Rattle.std.proofs.Common.{sym}
-use Rattle.amounts.specs.DriftLaws.{subtracted, stands, unheld}
+use Rattle.amounts.proofs.DriftSums.{subtracted, stands, unheld}
 use Rattle.amounts.proofs.drift.DriftAmount.difference.Goals as goal
 
 pub returns-then-is_value : goal.returns-then-is_value

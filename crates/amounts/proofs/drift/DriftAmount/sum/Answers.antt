@@ -1,5 +1,5 @@
 use Rattle.std.proofs.Common.{sym}
-use Rattle.amounts.specs.DriftLaws.{added, stands}
+use Rattle.amounts.proofs.DriftSums.{added, stands}
 use Rattle.amounts.proofs.drift.DriftAmount.sum.Goals as goal
 
 pub returns-then-is_value : goal.returns-then-is_value

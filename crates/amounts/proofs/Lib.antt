@@ -1,0 +1,2 @@
+pub mod MoneyBelow
+pub mod DriftSums
