@@ -1,5 +1,6 @@
 ghost use Rattle.std.specs.Prelude.{◌≡◌, MatchOption};
 ghost use Rattle.std.specs.Int.Count.{count_trailing_zeros};
+ghost use Rattle.std.specs.Iterator.{at_most};
 ghost use Rattle.words.specs.Words.{Lowest};
 
 // the lowest place of a word, and 64 if it has none
@@ -13,12 +14,16 @@ fn lowest(w: u64) -> usize
 #[derive(Clone, Copy)]
 pub struct Places(pub u64);
 
-impl Places {
+impl Iterator for Places {
+    type Item = usize;
+
+    ghost next_gives = { λ s r t. MatchOption r (s.0 ≡ 0) (λ k. Lowest s.0 k t.0) };
+
+    ghost remaining = { λ s. at_most s.0 };
+
     // The lowest place that is left, which is then no longer there.
     #[tactic(auto, using(crate::proofs::Digits::lowest_place))]
-    pub fn next(&mut self) -> Option<usize>
-        ensures { MatchOption result (self.old.0 ≡ 0) (λ k. Lowest self.old.0 k self.new.0) }
-    {
+    fn next(&mut self) -> Option<usize> {
         if self.0 == 0 {
             return None;
         }
