@@ -1,6 +1,6 @@
 -- What an answer means, from what the outcome of the run means.
 use Rattle.std.proofs.Common.{◌≡◌, ℕ, zero, suc, ◌+◌, ◌*◌, ◌/◌, ◌%◌, ◌<◌, ◌≤◌, Bool, true, false, cond, ◌&&◌, ◌||◌, eqb, List, sym, refl, ap, ◌∙◌, subst, ap₂, arith}
-use Rattle.words.specs.Words.{bit}
+use Rattle.words.specs.Words.{bit, word_of}
 use Rattle.groups.specs.Group.{Group, Ordered}
 use Rattle.groups.specs.Sums.{Le, Lt, minus, keep}
 use Rattle.groups.proofs.Totals.{sum_ext}
@@ -11,7 +11,7 @@ use Rattle.flow.proofs.Outcomes.{answered, never_outgrown, exclude}
 use Rattle.amounts.specs.Kind.{Kind, Lawful}
 use Rattle.planner.specs.declared.answer.Answer.{Answer}
 use Rattle.planner.specs.declared.answer.Answer.TheVariants.{Plan, Blocked, Outgrown}
-use Rattle.planner.specs.Answers.{word_of, answer_by, steps_of, outcome_of, Ran}
+use Rattle.planner.specs.Answers.{answer_by, steps_of, outcome_of, Ran}
 use Rattle.planner.specs.Calls.{Meaning}
 use Rattle.planner.specs.Tables.{state_of}
 

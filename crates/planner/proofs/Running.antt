@@ -3,8 +3,9 @@ use Rattle.std.proofs.Common.{◌≡◌, ℕ, zero, suc, pred, ◌+◌, ◌*◌,
 use mathlib.Core.Path.{fun_ext}
 use Rattle.std.proofs.lemmas.Nat.{mul-le}
 use Rattle.std.proofs.lemmas.Bool.{cases_lt}
-use Rattle.words.specs.Words.{bit}
+use Rattle.words.specs.Words.{bit, word_of}
 use Rattle.words.proofs.Digits.{bit_none, bit_zero}
+use Rattle.words.proofs.Marks.{word_same}
 use Rattle.groups.specs.Group.{Ordered}
 use Rattle.groups.specs.Sums.{Le}
 use Rattle.flow.specs.Counts.{sum_n, bit as one}
@@ -22,30 +23,13 @@ use Rattle.amounts.specs.Kind.{Kind}
 use Rattle.planner.specs.declared.answer.Answer.TheVariants.{Plan, Blocked, Outgrown}
 use Rattle.planner.specs.declared.state.Words.{Words}
 use Rattle.planner.specs.declared.state.Seek.{Seek}
-use Rattle.planner.specs.Answers.{word_of, answer_by, posed, Ran}
+use Rattle.planner.specs.Answers.{answer_by, posed, Ran}
 use Rattle.planner.specs.Finds.{Leads}
 use Rattle.planner.specs.Model.{model, tests}
 use Rattle.planner.specs.Step.{InStep}
 use Rattle.planner.specs.Tables.{table, state_of}
 use Rattle.planner.specs.Ways.{trail, least_along, fits_along, writable_along, stepped}
 use Rattle.planner.proofs.Apart.{held_back_along}
-
--- a word is the number of its own places
-pub word_same : (m v : ℕ) → v < 2 ^ m → word_of m (bit v) ≡ v
-unfolding word_of bit
-word_same zero v h = omega arith
-word_same (suc m) v h = ap₂ (λ (a b : ℕ). a + 2 * b) (digit (v % 2) (omega arith)) (word_same m (v / 2) half) ∙ whole
-  where
-    half : v / 2 < 2 ^ m
-    half = omega (arith, pow-suc 2 m)
-
-    digit : (d : ℕ) → d < 2 → cond (eqb d 1) 1 0 ≡ d
-    digit zero l = refl
-    digit (suc zero) l = refl
-    digit (suc (suc d)) l = absurd (omega arith)
-
-    whole : v % 2 + 2 * (v / 2) ≡ v
-    whole = omega arith
 
 -- the limit of a run of at most 64 members is small
 pub limit_small : {E : Type 0} (t : Task E) → t.n ≤ 64 → limit t ≤ 258176

@@ -2,7 +2,7 @@
 use Rattle.std.proofs.Common.{◌≡◌, ℕ, zero, suc, ◌<◌, ◌≤◌, true, false, ◌&&◌, ◌⊎◌, List, [], ◌∷◌, get_or, set, replicate, sym, refl, ap, ◌∙◌, subst, inl, inr, arith}
 use Rattle.std.proofs.lemmas.List.{get_or-set_same, get_or-set_other, length-set}
 use Rattle.std.proofs.lemmas.Bool.{and_parts, cases_eq, cases_lt, cond-true}
-use Rattle.words.specs.Words.{bit, Lowest}
+use Rattle.words.specs.Words.{bit}
 use Rattle.flow.specs.Routes.{Hop}
 use Rattle.flow.specs.Search.{Tests, Search, found, trace, search_all}
 use Rattle.flow.proofs.AtOnce.{at_once}
@@ -28,14 +28,15 @@ inside v n k none e = go (cases_lt k n)
     go (inr l) = clash (bit v k) e (none k l)
 
 -- the first giver with something to give, and the first permitted receiver who has something to get
-pub straight_ends : (w : Words) → Fitted w → (j u : ℕ) → Lowest w.givers j u → (v : ℕ)
-    → ((a : ℕ) → bit v a ≡ (bit (get_or w.permitted j 0) a && bit w.takers a)) → (i x : ℕ) → Lowest v i x → Straight w j i
-straight_ends w f j u first v both i x low =
-    let giver = inside w.givers w.n j f.givers first.set in
-    let here = and_parts (bit (get_or w.permitted j 0) i) (bit w.takers i) (sym (both i) ∙ low.set) in
+pub straight_ends : (w : Words) → Fitted w → (j v i : ℕ) → (j < 64) × (bit w.givers j ≡ true) × ((k : ℕ) → k < j → bit w.givers k ≡ false)
+    → ((a : ℕ) → bit v a ≡ (bit (get_or w.permitted j 0) a && bit w.takers a))
+    → (i < 64) × (bit v i ≡ true) × ((k : ℕ) → k < i → bit v k ≡ false) → Straight w j i
+straight_ends w f j v i first both low =
+    let giver = inside w.givers w.n j f.givers first.1 in
+    let here = and_parts (bit (get_or w.permitted j 0) i) (bit w.takers i) (sym (both i) ∙ low.1) in
     let receiver = inside (get_or w.permitted j 0) w.n i (f.permits j) here.0 in
-    let end = at_once (tests w) j giver first.set first.below i receiver here.0 here.1 (λ k l. sym (both k) ∙ low.below k l) in
-    record { giver = giver; receiver = receiver; starts = first.set; ends = end.ends; from = end.from }
+    let end = at_once (tests w) j giver first.1 first.2 i receiver here.0 here.1 (λ k l. sym (both k) ∙ low.2 k l) in
+    record { giver = giver; receiver = receiver; starts = first.1; ends = end.ends; from = end.from }
 
 module _ (w : Words) (j i : ℕ) (s : Straight w j i) (f : Fitted w) where
   abbrev straight : Seek

@@ -1,12 +1,11 @@
 -- The runs worked by hand, computed.
 use Rattle.std.proofs.Common.{refl}
 use Rattle.words.specs.Sweep.{sweep}
-use Rattle.words.specs.Words.{bit}
+use Rattle.words.specs.Words.{bit, word_of}
 use Rattle.flow.specs.Counts.{sum_n}
 use Rattle.flow.specs.Routes.{bump, amount, taken}
 use Rattle.flow.specs.Search.{mark, turns, search_all, trace}
 use Rattle.flow.specs.Outcomes.{step_held, settled, run, outcome}
-use Rattle.planner.specs.Answers.{word_of}
 use Rattle.planner.specs.Tables.{row}
 use Rattle.planner.specs.Worked.{WorkedRuns}
 

@@ -1,6 +1,6 @@
 -- The answer of a plan call, from the outcome of a run.
 use Rattle.std.specs.Prelude.{◌≡◌, ℕ, zero, suc, ◌+◌, ◌*◌, Bool, cond, List, slice_index}
-use Rattle.words.specs.Words.{bit}
+use Rattle.words.specs.Words.{bit, word_of}
 use Rattle.flow.specs.Flow.{Task}
 use Rattle.flow.specs.Outcomes.{End, planned, blocked, outgrown, Outcome, outcome}
 use Rattle.amounts.specs.Kind.{Kind}
@@ -8,11 +8,6 @@ use Rattle.planner.specs.declared.answer.Answer.{Answer}
 use Rattle.planner.specs.declared.answer.Answer.TheVariants.{Plan, Blocked, Outgrown}
 use Rattle.planner.specs.declared.state.Words.{Words}
 use Rattle.planner.specs.Tables.{state_of}
-
--- the number whose lowest m binary digits are the set, member k at place k
-unfoldable pub word_of : ℕ → (ℕ → Bool) → ℕ
-word_of zero S = 0
-word_of (suc m) S = cond (S 0) 1 0 + 2 * word_of m (λ k. S (suc k))
 
 -- the answer for an end after so many steps; the set is told only where it blocks
 abbrev pub answer_by : End → ℕ → Answer

@@ -8,9 +8,9 @@ use crate::checks::judge;
 use crate::run::run;
 use crate::state::Words;
 use crate::tables::{put_get, put_give};
-use crate::word;
 use amounts::Amount;
 use refusals::Refusal;
+use words as word;
 
 // Writes zero into each entry.
 fn clear<K: Amount>(amounts: &mut [K])

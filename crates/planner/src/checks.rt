@@ -1,7 +1,6 @@
 ghost use Rattle.std.specs.Prelude.{◌≡◌, ◌^◌, ◌≤◌, true, length, nat_lt};
 ghost use Rattle.planner.specs.Calls.{word_fits, words_fit, weight_fits, weights_fit, plan_refusal, BeyondIgnored};
 
-use crate::word;
 use amounts::Amount;
 use refusals::Refusal;
 use std::cmp::Ordering;
@@ -15,7 +14,7 @@ fn within(n: usize, permissions: u64) -> bool
     requires size { n ≤ 64 }
     ensures { result ≡ nat_lt permissions (2 ^ n) }
 {
-    permissions <= word::first(n)
+    permissions <= words::first(n)
 }
 
 // Whether a permission word permits neither its own giver nor anybody beyond n.
@@ -24,7 +23,7 @@ fn word_fits(n: usize, j: usize, permissions: u64) -> bool
     requires giver { j ≤ 63 }
     ensures { result ≡ word_fits n j permissions }
 {
-    !word::has(permissions, j) && within(n, permissions)
+    !words::has(permissions, j) && within(n, permissions)
 }
 
 // Whether the permission words of all n givers fit.

@@ -6,7 +6,7 @@ ghost use Rattle.planner.specs.Finds.{Finds, Straight};
 ghost use Rattle.planner.specs.Model.{model, tests, Sound, Fitted, ending, Within};
 
 use crate::state::{Found, Link, Seek, Words};
-use crate::word::Places;
+use words::Places;
 
 // The giver at the queue's front.
 fn front(q: &Seek) -> usize
@@ -21,7 +21,7 @@ fn wants(w: &Words, i: usize) -> bool
     requires { i < 64 }
     ensures { result ≡ bit w.now.takers i }
 {
-    crate::word::has(w.takers, i)
+    words::has(w.takers, i)
 }
 
 // The givers not yet reached whose transfer to receiver i is above zero.
@@ -29,7 +29,7 @@ fn backward(q: &Seek, w: &Words, i: usize) -> u64
     requires { i < 64 }
     ensures { (k : ℕ) → bit result k ≡ (bit (slice_index w.now.holders i) k && not (bit q.now.reached k)) }
 {
-    crate::word::except(w.holders[i], q.reached)
+    words::except(w.holders[i], q.reached)
 }
 
 // Reaches the givers back from receiver i, who join the queue's end in rising number.
@@ -41,9 +41,8 @@ pub(crate) fn back(q: &mut Seek, w: &Words, i: usize)
     ensures sound { Sound w.now.n q.new }
     ensures still { q.new.head ≡ q.old.head }
 {
-    let mut new = Places(backward(q, w, i));
-    while let Some(k) = new.next() {
-        q.reached = crate::word::with(q.reached, k);
+    for k in Places(backward(q, w, i)) {
+        q.reached = words::with(q.reached, k);
         q.via[k] = i as u8;
         q.queue[q.tail] = k as u8;
         q.tail += 1;
@@ -60,9 +59,8 @@ pub(crate) fn visit(q: &mut Seek, w: &Words, j: usize) -> Option<usize>
     ensures still { q.new.head ≡ q.old.head }
     ensures member { Within w.now.n result }
 {
-    let mut new = Places(crate::word::except(w.permitted[j], q.seen));
-    while let Some(i) = new.next() {
-        q.seen = crate::word::with(q.seen, i);
+    for i in Places(words::except(w.permitted[j], q.seen)) {
+        q.seen = words::with(q.seen, i);
         q.from[i] = j as u8;
         if wants(w, i) {
             return Some(i);
@@ -81,8 +79,7 @@ fn start(w: &Words) -> Seek
 {
     let mut queue = [0; 64];
     let mut tail = 0;
-    let mut left = Places(w.givers);
-    while let Some(k) = left.next() {
+    for k in Places(w.givers) {
         queue[tail] = k as u8;
         tail += 1;
     }
@@ -124,7 +121,14 @@ fn wanting(w: &Words, j: usize) -> u64
     requires rows { length w.now.permitted ≡ 64 }
     ensures { (i : ℕ) → bit result i ≡ (bit (slice_index w.now.permitted j) i && bit w.now.takers i) }
 {
-    crate::word::both(w.permitted[j], w.takers)
+    words::both(w.permitted[j], w.takers)
+}
+
+// The member of a set with the lowest number.
+fn lowest(members: u64) -> Option<usize>
+    ensures { IfSome result (λ k. (k < 64) × (bit members k ≡ true) × ((j : ℕ) → j < k → bit members j ≡ false)) }
+{
+    Places(members).next()
 }
 
 // The first giver with something to give, and the first receiver permitted from it that has still to get. Where
@@ -133,18 +137,9 @@ fn at_once(w: &Words) -> Option<Link>
     requires fitted { Fitted w.now }
     ensures { IfSome result (λ l. Straight w.now l.giver l.receiver) }
 {
-    let mut starting = Places(w.givers);
-    let Some(j) = starting.next() else {
-        return None;
-    };
-    let mut open = Places(wanting(w, j));
-    let Some(i) = open.next() else {
-        return None;
-    };
-    Some(Link {
-        giver: j,
-        receiver: i,
-    })
+    let giver = lowest(w.givers)?;
+    let receiver = lowest(wanting(w, giver))?;
+    Some(Link { giver, receiver })
 }
 
 // The way of one link.

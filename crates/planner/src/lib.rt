@@ -9,7 +9,6 @@ mod run;
 mod state;
 mod tables;
 mod walk;
-mod word;
 mod worked;
 
 pub use answer::Answer;

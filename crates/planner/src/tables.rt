@@ -3,9 +3,9 @@ ghost use Rattle.groups.specs.Sums.{above};
 ghost use Rattle.planner.specs.Step.{InStep};
 
 use crate::state::Words;
-use crate::word;
 use amounts::Amount;
 use std::cmp::Ordering;
+use words as word;
 
 // Whether an amount is above zero.
 pub(crate) fn is_above<K: Amount>(amount: K) -> bool

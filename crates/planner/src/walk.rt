@@ -8,8 +8,8 @@ ghost use Rattle.planner.specs.Ways.{trail, least_along, fits_along, writable_al
 
 use crate::state::{Seek, Words};
 use crate::tables::{put_get, put_give, put_transfer};
-use crate::word;
 use amounts::{Amount, lesser};
+use words as word;
 
 // The least amount on the way back from receiver z: what its giver has to give, what z has to get, and
 // every transfer that would be taken back.

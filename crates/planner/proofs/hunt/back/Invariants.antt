@@ -7,8 +7,6 @@ use Rattle.planner.proofs.hunt.back.Given as goal
 
 abbrev pub invariant-loop-k : goal.invariant-loop-k
 invariant-loop-k l =
-    Swept (back_test (tests l.w) l.i) (joined l.i) l.w.n (model searching l.initial.q) l.new.0 (model searching l.q)
+    Swept (back_test (tests l.w) l.i) (joined l.i) l.w.n (model searching l.initial.q) l.k-iterator.0 (model searching l.q)
     × Sound l.w.n l.q × (l.q.head ≡ l.initial.q.head)
 
-abbrev pub decreases-loop-k : goal.decreases-loop-k
-decreases-loop-k l = l.new.0

@@ -12,5 +12,5 @@ returns g c = record {
   kept =
       subst (λ l. InStep g.K.Amount.kind (record { n = c.args.w.now.n; permitted = c.args.w.now.permitted; givers = c.args.w.now.givers; takers = c.put-w.result; holders = c.args.w.now.holders }) c.args.transfers.now c.args.to_give.now l) (sym c.write.ensures)
       (get_keeps g.K.Amount.kind c.args.w.now c.args.transfers.now c.args.to_give.now c.args.to_get.now c.requires.kept c.args.amount c.put-w.result c.requires.value c.args.i c.requires.receiver
-      (λ a. c.put-w.ensures a ∙ ap (λ t. cond (eqb a c.args.i) t (bit c.args.w.now.takers a)) c.is_above.ensures));
+      (λ a. c.put-w.ensures.places a ∙ ap (λ t. cond (eqb a c.args.i) t (bit c.args.w.now.takers a)) c.is_above.ensures));
 }

@@ -12,5 +12,5 @@ returns g c = record {
   kept =
       subst (λ l. InStep g.K.Amount.kind (record { n = c.args.w.now.n; permitted = c.args.w.now.permitted; givers = c.put-w.result; takers = c.args.w.now.takers; holders = c.args.w.now.holders }) c.args.transfers.now l c.args.to_get.now) (sym c.write.ensures)
       (give_keeps g.K.Amount.kind c.args.w.now c.args.transfers.now c.args.to_give.now c.args.to_get.now c.requires.kept c.args.amount c.put-w.result c.requires.value c.args.j c.requires.giver
-      (λ a. c.put-w.ensures a ∙ ap (λ t. cond (eqb a c.args.j) t (bit c.args.w.now.givers a)) c.is_above.ensures));
+      (λ a. c.put-w.ensures.places a ∙ ap (λ t. cond (eqb a c.args.j) t (bit c.args.w.now.givers a)) c.is_above.ensures));
 }

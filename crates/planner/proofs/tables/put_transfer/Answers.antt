@@ -13,5 +13,5 @@ returns g c = record {
   kept =
       subst (λ l. InStep g.K.Amount.kind (record { n = c.args.w.now.n; permitted = c.args.w.now.permitted; givers = c.args.w.now.givers; takers = c.args.w.now.takers; holders = set c.args.w.now.holders c.args.i c.put.result }) l c.args.to_give.now c.args.to_get.now) (sym c.write.ensures)
       (put_keeps g.K.Amount.kind c.args.w.now c.args.transfers.now c.args.to_give.now c.args.to_get.now c.requires.kept c.args.amount c.put.result c.requires.value c.args.j c.args.i c.requires.giver c.requires.receiver
-      (λ a. c.put.ensures a ∙ ap (λ t. cond (eqb a c.args.j) t (bit (get_or c.args.w.now.holders c.args.i 0) a)) c.is_above.ensures));
+      (λ a. c.put.ensures.places a ∙ ap (λ t. cond (eqb a c.args.j) t (bit (get_or c.args.w.now.holders c.args.i 0) a)) c.is_above.ensures));
 }
