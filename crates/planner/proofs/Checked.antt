@@ -1,5 +1,8 @@
 -- The checks of words and weights, one after another.
-use Rattle.std.proofs.Common.{◌≡◌, ℕ, zero, suc, ◌+◌, ◌-◌, ◌^◌, ◌<◌, ◌≤◌, Bool, true, false, ◌&&◌, ltb, leb, ◌⊎◌, List, [], ◌∷◌, length, get_or, sym, refl, ◌∙◌, subst, inl, inr, true≢false, add-one, arith}
+use Rattle.std.specs.List.{list_all, range_with_len}
+use Rattle.std.proofs.lemmas.List.Folds.{list_all-append, list_all-map}
+use Rattle.std.proofs.lemmas.List.FromFn.{map-range_with_len_more}
+use Rattle.std.proofs.Common.{map, take, ap, ap₂, ◌≡◌, ℕ, zero, suc, ◌+◌, ◌-◌, ◌^◌, ◌<◌, ◌≤◌, Bool, true, false, ◌&&◌, ltb, leb, ◌⊎◌, List, [], ◌∷◌, length, get_or, sym, refl, ◌∙◌, subst, inl, inr, true≢false, add-one, arith}
 use Rattle.std.proofs.lemmas.Nat.{pow_pos}
 use Rattle.std.proofs.lemmas.Bool.{and_from, and_left, and_right, and_parts, cases_eq, le-leb, lt-leb, lt-ltb, le-ltb, cases_lt}
 use Rattle.planner.specs.Calls.{all_below, all_first}
@@ -12,9 +15,20 @@ most_below p n = go (cases_lt p (2 ^ n))
     go (inl h) = le-leb p (2 ^ n - 1) (omega arith) ∙ sym (lt-ltb p (2 ^ n) h)
     go (inr h) = lt-leb p (2 ^ n - 1) (omega (arith, pow_pos n)) ∙ sym (le-ltb p (2 ^ n) h)
 
-pub all_more : (n : ℕ) (p : ℕ → Bool) → all_below n p ≡ true → p n ≡ true → all_below (n + 1) p ≡ true
+-- the tests of the numbers below n, as those of a list
+pub below_listed : (n : ℕ) (p : ℕ → Bool) → list_all p (range_with_len 0 n) ≡ all_below n p
 unfolding all_below
-all_more n p a b = rw add-one (and_from (all_below n p) (p n) a b)
+below_listed n p = sym (list_all-map (λ b. b) p (range_with_len 0 n)) ∙ go n
+  where
+    and_true : (b : Bool) → (b && true) ≡ b
+    and_true true = refl
+    and_true false = refl
+
+    go : (m : ℕ) → list_all (λ b. b) (map p (range_with_len 0 m)) ≡ all_below m p
+    go zero = refl
+    go (suc m) =
+        ap (list_all (λ b. b)) (ap (λ k. map p (range_with_len 0 k)) (sym (add-one m)) ∙ map-range_with_len_more p 0 m m (omega arith))
+        ∙ list_all-append (λ b. b) (map p (range_with_len 0 m)) (p m ∷ []) ∙ ap₂ (λ a b. a && b) (go m) (and_true (p m))
 
 pub all_not : (n : ℕ) (p : ℕ → Bool) (j : ℕ) → j < n → p j ≡ false → all_below n p ≡ false
 unfolding all_below
@@ -35,16 +49,12 @@ all_at (suc n) p a j h = go (cases_eq j n) (λ l. all_at n p (and_parts (all_bel
     go (inr q) ih = ih (omega arith)
 
 module _ {V : Type 0} (p : V → Bool) where
-  pub first_more : (j : ℕ) (vs : List V) (x : V) → j < length vs → x ≡ get_or vs j x → p x ≡ true → all_first p j vs ≡ true → all_first p (j + 1) vs ≡ true
+  -- the tests of the first entries, as those of a list
+  pub first_listed : (n : ℕ) (vs : List V) → list_all p (take n vs) ≡ all_first p n vs
   unfolding all_first
-  first_more j vs x l r f h = rw add-one (go j vs l r h)
-    where
-      go : (j : ℕ) (vs : List V) → j < length vs → x ≡ get_or vs j x → all_first p j vs ≡ true → all_first p (suc j) vs ≡ true
-      go j [] l r h = absurd (omega arith)
-      go zero (v ∷ vs) l r h = and_from (p v) true (subst (λ y. p y ≡ true) r f) refl
-      go (suc j) (v ∷ vs) l r h =
-          let q = and_parts (p v) (all_first p j vs) h in
-          and_from (p v) (all_first p (suc j) vs) q.0 (go j vs (omega arith) r q.1)
+  first_listed zero vs = refl
+  first_listed (suc n) [] = refl
+  first_listed (suc n) (v ∷ vs) = ap (λ b. p v && b) (first_listed n vs)
 
   pub first_not : (n : ℕ) (vs : List V) (j : ℕ) (x : V) → j < n → j < length vs → x ≡ get_or vs j x → p x ≡ false → all_first p n vs ≡ false
   unfolding all_first

@@ -4,7 +4,7 @@ ghost use Rattle.planner.specs.Calls.{plan_refusal, Planned, BeyondIgnored};
 ghost use Rattle.planner.specs.Tables.{row, values};
 
 use crate::answer::Answer;
-use crate::checks::judge;
+use crate::checks::check;
 use crate::run::run;
 use crate::state::Words;
 use crate::tables::{put_get, put_give};
@@ -85,8 +85,6 @@ pub fn plan<K: Amount>(
     ensures planned { IfOk result (λ a. Planned K.Amount.kind n weights.now permissions.now a transfers.new to_give.new to_get.new) }
     ensures beyond { BeyondIgnored K.Amount.kind n weights.now permissions.now transfers.old to_give.old to_get.old }
 {
-    if let Some(refusal) = judge(n, weights, permissions, transfers, to_give, to_get) {
-        return Err(refusal);
-    }
+    check(n, weights, permissions, transfers, to_give, to_get)?;
     Ok(start(n, weights, permissions, transfers, to_give, to_get))
 }

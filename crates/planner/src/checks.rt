@@ -1,9 +1,9 @@
 ghost use Rattle.std.specs.Prelude.{◌≡◌, ◌^◌, ◌≤◌, true, length, nat_lt};
-ghost use Rattle.planner.specs.Calls.{word_fits, words_fit, weight_fits, weights_fit, plan_refusal, BeyondIgnored};
+ghost use Rattle.refusals.specs.Judged.{judged};
+ghost use Rattle.planner.specs.Calls.{word_fits, words_fit, weight_fits, weights_fit, plan_refusal};
 
 use amounts::Amount;
 use refusals::Refusal;
-use std::cmp::Ordering;
 
 const MEMBERS: usize = 64;
 
@@ -32,25 +32,14 @@ fn words_fit(n: usize, permissions: &[u64]) -> bool
     requires room { n ≤ length permissions.now }
     ensures { result ≡ words_fit n permissions.now }
 {
-    for j in 0..n {
-        if !word_fits(n, j, permissions[j]) {
-            return false;
-        }
-    }
-    true
+    (0..n).all(|j| word_fits(n, j, permissions[j]))
 }
 
 // Whether a weight is a value that is not below zero.
 fn weight_fits<K: Amount>(weight: K) -> bool
     ensures { result ≡ weight_fits K.Amount.kind weight }
 {
-    if !weight.is_value() {
-        return false;
-    }
-    match weight.compare(K::zero()) {
-        Ordering::Less => false,
-        _ => true,
-    }
+    weight.is_value() && !weight.compare(K::zero()).is_lt()
 }
 
 // Whether the first n weights fit.
@@ -58,24 +47,19 @@ fn weights_fit<K: Amount>(n: usize, weights: &[K]) -> bool
     requires room { n ≤ length weights.now }
     ensures { result ≡ weights_fit K.Amount.kind n weights.now }
 {
-    for j in 0..n {
-        if !weight_fits(weights[j]) {
-            return false;
-        }
-    }
-    true
+    weights[..n].iter().all(|&weight| weight_fits(weight))
 }
 
-// Why a plan call is refused, if it is.
-fn refusal_of<K: Amount>(
+// Tries what a plan call is given.
+pub(crate) fn check<K: Amount>(
     n: usize,
     weights: &[K],
     permissions: &[u64],
     transfers: &[K],
     to_give: &[K],
     to_get: &[K],
-) -> Option<Refusal>
-    ensures { result ≡ plan_refusal K.Amount.kind n weights.now permissions.now transfers.now to_give.now to_get.now }
+) -> Result<(), Refusal>
+    ensures { result ≡ judged (plan_refusal K.Amount.kind n weights.now permissions.now transfers.now to_give.now to_get.now) tt }
 {
     if weights.len() != MEMBERS
         || permissions.len() != MEMBERS
@@ -83,31 +67,16 @@ fn refusal_of<K: Amount>(
         || to_give.len() != MEMBERS
         || to_get.len() != MEMBERS
     {
-        return Some(Refusal::Length);
+        return Err(Refusal::Length);
     }
     if n < 1 || n > MEMBERS {
-        return Some(Refusal::MemberRange);
+        return Err(Refusal::MemberRange);
     }
     if !words_fit(n, permissions) {
-        return Some(Refusal::PermissionWord);
+        return Err(Refusal::PermissionWord);
     }
     if !weights_fit(n, weights) {
-        return Some(Refusal::NotAnAmount);
+        return Err(Refusal::NotAnAmount);
     }
-    None
-}
-
-// Why a plan call is refused, if it is. What lies beyond n plays no part in that, nor in what is asked.
-pub(crate) fn judge<K: Amount>(
-    n: usize,
-    weights: &[K],
-    permissions: &[u64],
-    transfers: &[K],
-    to_give: &[K],
-    to_get: &[K],
-) -> Option<Refusal>
-    ensures value { result ≡ plan_refusal K.Amount.kind n weights.now permissions.now transfers.now to_give.now to_get.now }
-    ensures beyond { BeyondIgnored K.Amount.kind n weights.now permissions.now transfers.now to_give.now to_get.now }
-{
-    refusal_of(n, weights, permissions, transfers, to_give, to_get)
+    Ok(())
 }

@@ -9,4 +9,3 @@ abbrev pub invariant-loop-k : goal.invariant-loop-k
 invariant-loop-k l =
     Swept (back_test (tests l.w) l.i) (joined l.i) l.w.n (model searching l.initial.q) l.k-iterator.0 (model searching l.q)
     × Sound l.w.n l.q × (l.q.head ≡ l.initial.q.head)
-

@@ -8,4 +8,3 @@ abbrev pub invariant-loop-k : goal.invariant-loop-k
 invariant-loop-k l =
     Swept (start_test (tests l.w)) (start_act (tests l.w)) l.w.n [] l.k-iterator.0 (take l.tail l.queue)
     × (length l.queue ≡ 64) × (l.tail < 65) × ((c : ℕ) → c < l.tail → get_or l.queue c 0 < l.w.n)
-
