@@ -1,26 +1,33 @@
--- What is read from tables that are in step with the words.
-use Rattle.std.proofs.Common.{◌≡◌, ℕ, ◌+◌, ◌*◌, ◌<◌, List, get_or, arith}
-use Rattle.amounts.specs.Kind.{Kind, StandsFor}
-use Rattle.planner.specs.declared.state.Words.{Words}
-use Rattle.planner.specs.Step.{InStep}
+-- What is read from the tables of a run; d stands for what would be read past their ends.
+use Rattle.std.proofs.Common.{◌≡◌, ℕ, ◌+◌, ◌*◌, ◌<◌, List, get_or, subst, arith}
+use Rattle.amounts.specs.declared.Amount.{Ghosts}
+use Rattle.amounts.specs.Kind.{StandsFor}
+use Rattle.planner.specs.declared.tables.Tables.{Tables}
 use Rattle.planner.specs.Tables.{row, table}
-use Rattle.planner.proofs.Entries.{row_is, table_is, value_at}
+use Rattle.planner.proofs.Entries.{row_read, table_read, value_read}
 
-module _ {V : Type 0} (k : Kind V) (w : Words) (xs gs rs : List V) (s : InStep k w xs gs rs) where
-  pub transfer_at : (j i : ℕ) (x : V) → j < w.n → i < w.n → x ≡ get_or xs (64 * j + i) x → StandsFor k x (table k xs j i)
-  transfer_at j i x a b r = (
-    value_at k xs (64 * j + i) x (omega (arith, s.transfers, s.fitted.size)) r s.x_values,
-    table_is k xs j i x s.transfers (omega (arith, s.fitted.size)) (omega (arith, s.fitted.size)) r,
+module _ {V : Type 0} {g : Ghosts V} (t : Tables V g) where
+  pub transfer_at : (j i : ℕ) (d : V) → j < t.words.n → i < t.words.n → StandsFor g.kind (get_or t.transfers.now (64 * j + i) d) (table g.kind t.transfers.now j i)
+  transfer_at j i d a b = (
+    value_read g.kind t.transfers.now (64 * j + i) d (omega (arith, t.kept.transfers, t.words.fitted.size)) t.kept.x_values,
+    table_read g.kind t.transfers.now j i d t.kept.transfers (omega (arith, t.words.fitted.size)) (omega (arith, t.words.fitted.size)),
   )
 
-  pub give_at : (j : ℕ) (x : V) → j < w.n → x ≡ get_or gs j x → StandsFor k x (row k gs j)
-  give_at j x a r = (
-    value_at k gs j x (omega (arith, s.gives, s.fitted.size)) r s.g_values,
-    row_is k gs j x (omega (arith, s.gives, s.fitted.size)) r,
+  pub give_at : (j : ℕ) (d : V) → j < t.words.n → StandsFor g.kind (get_or t.to_give.now j d) (row g.kind t.to_give.now j)
+  give_at j d a = (
+    value_read g.kind t.to_give.now j d (omega (arith, t.kept.gives, t.words.fitted.size)) t.kept.g_values,
+    row_read g.kind t.to_give.now j d (omega (arith, t.kept.gives, t.words.fitted.size)),
   )
 
-  pub get_at : (i : ℕ) (x : V) → i < w.n → x ≡ get_or rs i x → StandsFor k x (row k rs i)
-  get_at i x a r = (
-    value_at k rs i x (omega (arith, s.gets, s.fitted.size)) r s.r_values,
-    row_is k rs i x (omega (arith, s.gets, s.fitted.size)) r,
+  pub get_at : (i : ℕ) (d : V) → i < t.words.n → StandsFor g.kind (get_or t.to_get.now i d) (row g.kind t.to_get.now i)
+  get_at i d a = (
+    value_read g.kind t.to_get.now i d (omega (arith, t.kept.gets, t.words.fitted.size)) t.kept.r_values,
+    row_read g.kind t.to_get.now i d (omega (arith, t.kept.gets, t.words.fitted.size)),
   )
+
+  -- the same where the table is as it was
+  pub give_still : (l : List V) → t.to_give.now ≡ l → (j : ℕ) (d : V) → j < t.words.n → StandsFor g.kind (get_or t.to_give.now j d) (row g.kind l j)
+  give_still l e j d a = subst (λ m. StandsFor g.kind (get_or t.to_give.now j d) (row g.kind m j)) e (give_at j d a)
+
+  pub get_still : (l : List V) → t.to_get.now ≡ l → (i : ℕ) (d : V) → i < t.words.n → StandsFor g.kind (get_or t.to_get.now i d) (row g.kind l i)
+  get_still l e i d a = subst (λ m. StandsFor g.kind (get_or t.to_get.now i d) (row g.kind m i)) e (get_at i d a)

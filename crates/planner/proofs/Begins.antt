@@ -11,15 +11,28 @@ use Rattle.amounts.specs.Kind.{Kind, Lawful}
 use Rattle.planner.specs.declared.state.Words.{Words}
 use Rattle.planner.specs.Answers.{posed}
 use Rattle.planner.specs.Calls.{all_first, weight_fits, weights_fit, asked}
+use Rattle.planner.specs.Fitted.{Fitted}
 use Rattle.planner.specs.Step.{InStep}
 use Rattle.planner.specs.Tables.{row, table, values, state_of}
 use Rattle.planner.proofs.Checked.{first_at}
-use Rattle.planner.proofs.Entries.{row_here, row_else, row_is}
+use Rattle.planner.proofs.Entries.{row_here, row_else, row_read}
 
 pub zeros : (m j : ℕ) → get_or {A = ℕ} (replicate m 0) j 0 ≡ 0
 zeros zero j = refl
 zeros (suc m) zero = refl
 zeros (suc m) (suc j) = zeros m j
+
+-- the words of a run that begins stay within n
+pub begin_fitted : (n : ℕ) (ps permissions : List ℕ) → n ≤ 64 → length ps ≡ 64
+    → ((j i : ℕ) → bit (get_or ps j 0) i ≡ (ltb j n && (ltb i n && bit (get_or permissions j 0) i))) → Fitted n ps 0 (replicate 64 0)
+begin_fitted n ps permissions size rows rules = record {
+  size = size;
+  rows = rows;
+  columns = refl;
+  givers = λ j h. bit_zero j;
+  permits = λ j i h. rules j i ∙ and_right (ltb j n) (ltb i n && bit (get_or permissions j 0) i) (and_left (ltb i n) (bit (get_or permissions j 0) i) (le-ltb i n h));
+  holds = λ i j h. ap (λ v. bit v j) (zeros 64 i) ∙ bit_zero j;
+}
 
 module _ {V : Type 0} (k : Kind V) where
   -- a write to place i leaves the entries before it
@@ -51,22 +64,12 @@ module _ {V : Type 0} (k : Kind V) where
     none_above : above k.group k.group.nil ≡ false
     none_above = ap not (L.reflexive k.group.nil)
 
-    module _ (n : ℕ) (ps permissions : List ℕ) (xs gs rs : List V) (size : n ≤ 64) (rows : length ps ≡ 64)
-        (rules : (j i : ℕ) → bit (get_or ps j 0) i ≡ (ltb j n && (ltb i n && bit (get_or permissions j 0) i)))
-        (x64 : length xs ≡ 4096) (g64 : length gs ≡ 64) (r64 : length rs ≡ 64)
+    module _ (xs gs rs : List V) (x64 : length xs ≡ 4096) (g64 : length gs ≡ 64) (r64 : length rs ≡ 64)
         (vx : values k xs ≡ true) (vg : values k gs ≡ true) (vr : values k rs ≡ true)
         (hx : (i : ℕ) → row k xs i ≡ k.group.nil) (hg : (i : ℕ) → row k gs i ≡ k.group.nil) (hr : (i : ℕ) → row k rs i ≡ k.group.nil) where
-      pub begin_step : InStep k (record { n = n; permitted = ps; givers = 0; takers = 0; holders = replicate 64 0 }) xs gs rs
+      pub begin_step : InStep k 0 0 (replicate 64 0) xs gs rs
       begin_step =
           record {
-            fitted = record {
-              size = size;
-              rows = rows;
-              columns = refl;
-              givers = λ j h. bit_zero j;
-              permits = λ j i h. rules j i ∙ and_right (ltb j n) (ltb i n && bit (get_or permissions j 0) i) (and_left (ltb i n) (bit (get_or permissions j 0) i) (le-ltb i n h));
-              holds = λ i j h. ap (λ v. bit v j) (zeros 64 i) ∙ bit_zero j;
-            };
             transfers = x64;
             gives = g64;
             gets = r64;
@@ -90,7 +93,7 @@ module _ {V : Type 0} (k : Kind V) where
     where
       go : (i ≡ j) ⊎ (i ≡ j → ⊥) → row k (set l j x) i ≡ cond (ltb i (j + 1)) (row k ws i) k.group.nil
       go (inl q) =
-          ap (row k (set l j x)) q ∙ row_here k l j x h ∙ row_is k ws j x hw e ∙ ap (row k ws) (sym q)
+          ap (row k (set l j x)) q ∙ row_here k l j x h ∙ ap k.element e ∙ row_read k ws j x hw ∙ ap (row k ws) (sym q)
           ∙ sym (ap (λ b. cond b (row k ws i) k.group.nil) (lt-ltb i (j + 1) (omega arith)))
       go (inr q) = row_else k l j x i q ∙ p i ∙ ap (λ b. cond b (row k ws i) k.group.nil) (same (cases_lt i j))
         where

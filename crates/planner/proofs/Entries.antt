@@ -20,11 +20,11 @@ module _ {V : Type 0} (k : Kind V) where
   row_else (v ∷ l) (suc j) y (suc a) h = row_else l j y a (λ e. h (ap suc e))
 
   -- an entry that was read stands for the element at its place
-  pub row_is : (l : List V) (j : ℕ) (x : V) → j < length l → x ≡ get_or l j x → k.element x ≡ row k l j
+  pub row_read : (l : List V) (j : ℕ) (d : V) → j < length l → k.element (get_or l j d) ≡ row k l j
   unfolding row
-  row_is [] j x h r = absurd (omega arith)
-  row_is (v ∷ l) zero x h r = ap k.element r
-  row_is (v ∷ l) (suc j) x h r = row_is l j x (omega arith) r
+  row_read [] j d h = absurd (omega arith)
+  row_read (v ∷ l) zero d h = refl
+  row_read (v ∷ l) (suc j) d h = row_read l j d (omega arith)
 
   pub row_past : (l : List V) (j : ℕ) → length l ≤ j → row k l j ≡ k.group.nil
   unfolding row
@@ -49,10 +49,10 @@ module _ {V : Type 0} (k : Kind V) where
           apart : 64 * a + b ≢ 64 * j + i
           apart q = h (omega (arith, ltb-true b 64 e), omega (arith, ltb-true b 64 e))
 
-  pub table_is : (l : List V) (j i : ℕ) (x : V) → length l ≡ 4096 → j < 64 → i < 64 → x ≡ get_or l (64 * j + i) x → k.element x ≡ table k l j i
+  pub table_read : (l : List V) (j i : ℕ) (d : V) → length l ≡ 4096 → j < 64 → i < 64 → k.element (get_or l (64 * j + i) d) ≡ table k l j i
   unfolding table
-  table_is l j i x e a b r =
-      row_is l (64 * j + i) x (omega arith) r ∙ sym (cond-true (ltb i 64) (row k l (64 * j + i)) k.group.nil (lt-ltb i 64 b))
+  table_read l j i d e a b =
+      row_read l (64 * j + i) d (omega arith) ∙ sym (cond-true (ltb i 64) (row k l (64 * j + i)) k.group.nil (lt-ltb i 64 b))
 
   pub values_set : (l : List V) (j : ℕ) (y : V) → k.value y ≡ true → values k l ≡ true → values k (set l j y) ≡ true
   unfolding values
@@ -62,11 +62,11 @@ module _ {V : Type 0} (k : Kind V) where
       let q = and_parts (k.value v) (values k l) p in
       and_from (k.value v) (values k (set l j y)) q.0 (values_set l j y h q.1)
 
-  pub value_at : (l : List V) (j : ℕ) (x : V) → j < length l → x ≡ get_or l j x → values k l ≡ true → k.value x ≡ true
+  pub value_read : (l : List V) (j : ℕ) (d : V) → j < length l → values k l ≡ true → k.value (get_or l j d) ≡ true
   unfolding values
-  value_at [] j x h r p = absurd (omega arith)
-  value_at (v ∷ l) zero x h r p = ap k.value r ∙ (and_parts (k.value v) (values k l) p).0
-  value_at (v ∷ l) (suc j) x h r p = value_at l j x (omega arith) r (and_parts (k.value v) (values k l) p).1
+  value_read [] j d h p = absurd (omega arith)
+  value_read (v ∷ l) zero d h p = (and_parts (k.value v) (values k l) p).0
+  value_read (v ∷ l) (suc j) d h p = value_read l j d (omega arith) (and_parts (k.value v) (values k l) p).1
 
   -- an entry of a table of values is held
   pub row_held : ((v : V) → k.value v ≡ true → k.held (k.element v) ≡ true) → (l : List V) (j : ℕ) → j < length l → values k l ≡ true → k.held (row k l j) ≡ true

@@ -9,7 +9,7 @@ use Rattle.flow.specs.Search.{Ends, searching, found, Search, joined, noted, end
 use Rattle.planner.specs.declared.state.Seek.{Seek}
 use Rattle.planner.specs.declared.state.Words.{Words}
 use Rattle.flow.specs.Search.{Tests, going, back_test, backs, out_test, out_act, outs}
-use Rattle.planner.specs.Model.{places, model, tests, Sound, Fitted}
+use Rattle.planner.specs.Model.{places, model, tests, Sound}
 use Rattle.planner.proofs.Marks.{marked, mark_other, bit_marked, set_below}
 
 abbrev pub Outing : Words → ℕ → Seek → ℕ → Seek → Type 0
@@ -26,29 +26,22 @@ backs_keep t i (suc m) p = go (back_test t i m (backs t i m p)) (backs_keep t i 
     go true ih = ih
     go false ih = ih
 
-pub outs_start : (w : Words) (q : Seek) (j v : ℕ) → Fitted w → ((i : ℕ) → bit v i ≡ (bit (get_or w.permitted j 0) i && not (bit q.seen i))) → Outing w j q v q
-outs_start w q j v f h =
+pub outs_start : (w : Words) (q : Seek) (j v : ℕ) → ((i : ℕ) → bit v i ≡ (bit (get_or w.permitted j 0) i && not (bit q.seen i))) → Outing w j q v q
+outs_start w q j v h =
     sweep_starts (out_test (tests w) j) (out_act (tests w) j) w.n (model searching q) v
-    (λ i a. h i ∙ and_left (bit (get_or w.permitted j 0) i) (not (bit q.seen i)) (f.permits j i a)) (λ i a. h i)
+    (λ i a. h i ∙ and_left (bit (get_or w.permitted j 0) i) (not (bit q.seen i)) (w.fitted.permits j i a)) (λ i a. h i)
 
-module _ (w : Words) (q₀ q : Seek) (j v i u : ℕ) (y : j < w.n) (s : Sound w.n q) (o : w.n ≤ 64) (b : Outing w j q₀ v q) (l : Lowest v i u)
-    (m : ℕ) (e : (k : ℕ) → bit m k ≡ cond (eqb k i) true (bit q.seen k)) where
-  acts : Acts (out_test (tests w) j) (out_act (tests w) j) w.n (model searching q₀) (model searching q) i u
-  acts = sweep_acts (out_test (tests w) j) (out_act (tests w) j) w.n (model searching q₀) v (model searching q) i u b l
-
-  pub outs_within : i < w.n
-  outs_within = acts.within
-
-  -- receiver i has been noted
+-- a search that has noted receiver i is sound, and stands for what noting it gives
+module _ (n : ℕ) (q : Seek) (j i m : ℕ) (s : Sound n q) (y : j < n) (z : i < n) (o : n ≤ 64) (e : (k : ℕ) → bit m k ≡ cond (eqb k i) true (bit q.seen k)) where
   abbrev pub seen_too : Seek
   seen_too =
       record { queue = q.queue; head = q.head; tail = q.tail; reached = q.reached; seen = m; from = set q.from i j; via = q.via }
 
-  noted_model : (z : Ends) → model z seen_too ≡ noted j i (model z q)
-  noted_model z =
-      λ k. record { pending = (model z q).pending; reached = bit q.reached; seen = bit_marked q.seen i m e k; from = marked q.from i j 0 (omega (arith, s.froms, outs_within)) k; via = places q.via; ends = z }
+  pub noted_model : (z : Ends) → model z seen_too ≡ noted j i (model z q)
+  noted_model ends =
+      λ k. record { pending = (model ends q).pending; reached = bit q.reached; seen = bit_marked q.seen i m e k; from = marked q.from i j 0 (omega (arith, s.froms)) k; via = places q.via; ends = ends }
 
-  pub noted_sound : Sound w.n seen_too
+  pub noted_sound : Sound n seen_too
   noted_sound = record {
     ahead = s.ahead;
     queues = s.queues;
@@ -56,35 +49,40 @@ module _ (w : Words) (q₀ q : Seek) (j v i u : ℕ) (y : j < w.n) (s : Sound w.
     vias = s.vias;
     room = s.room;
     members = s.members;
-    sources = λ c h. set_below w.n q.from i j y s.sources c h;
+    sources = λ c h. set_below n q.from i j y s.sources c h;
     bridges = s.bridges;
   }
 
-  -- the search ends at i
-  pub outs_found : bit w.takers i ≡ true → model (found i) seen_too ≡ outs (tests w) j w.n (model searching q₀)
-  outs_found t = there ∙ acts.over (λ k a c. ap (λ x. going x.ends && (bit (get_or w.permitted j 0) k && not (x.seen k))) (sym there))
-    where
-      there : model (found i) seen_too ≡ out_act (tests w) j i (model searching q)
-      there =
-          ap (ended i) (noted_model searching)
-          ∙ sym (cond-true (bit w.takers i) (ended i (noted j i (model searching q))) (backs (tests w) i w.n (noted j i (model searching q))) t)
+module _ (w : Words) (q₀ q : Seek) (j v i u : ℕ) (b : Outing w j q₀ v q) (l : Lowest v i u) where
+  acts : Acts (out_test (tests w) j) (out_act (tests w) j) w.n (model searching q₀) (model searching q) i u
+  acts = sweep_acts (out_test (tests w) j) (out_act (tests w) j) w.n (model searching q₀) v (model searching q) i u b l
 
-  -- or it goes on
-  pub outs_next : bit w.takers i ≡ false → (q' : Seek) → model searching q' ≡ backs (tests w) i w.n (model searching seen_too) → Outing w j q₀ u q'
-  outs_next t q' h = subst (Swept (out_test (tests w) j) (out_act (tests w) j) w.n (model searching q₀) u) (sym there) (acts.onward stay)
-    where
-      inner : Search
-      inner = backs (tests w) i w.n (noted j i (model searching q))
+  pub outs_within : i < w.n
+  outs_within = acts.within
 
-      chosen : out_act (tests w) j i (model searching q) ≡ backs (tests w) i w.n (noted j i (model searching q))
-      chosen = cond-false (bit w.takers i) (ended i (noted j i (model searching q))) (backs (tests w) i w.n (noted j i (model searching q))) t
+  module _ (q₁ : Seek) (n : (z : Ends) → model z q₁ ≡ noted j i (model z q)) where
+    -- the search ends at i
+    pub outs_found : bit w.takers i ≡ true → model (found i) q₁ ≡ outs (tests w) j w.n (model searching q₀)
+    outs_found t = there ∙ acts.over (λ k a c. ap (λ x. going x.ends && (bit (get_or w.permitted j 0) k && not (x.seen k))) (sym there))
+      where
+        there : model (found i) q₁ ≡ out_act (tests w) j i (model searching q)
+        there =
+            ap (ended i) (n searching)
+            ∙ sym (cond-true (bit w.takers i) (ended i (noted j i (model searching q))) (backs (tests w) i w.n (noted j i (model searching q))) t)
 
-      there : model searching q' ≡ out_act (tests w) j i (model searching q)
-      there = h ∙ ap (backs (tests w) i w.n) (noted_model searching) ∙ sym chosen
+    -- or it goes on
+    pub outs_next : bit w.takers i ≡ false → (q' : Seek) → model searching q' ≡ backs (tests w) i w.n (model searching q₁) → Outing w j q₀ u q'
+    outs_next t q' h = subst (Swept (out_test (tests w) j) (out_act (tests w) j) w.n (model searching q₀) u) (sym there) (acts.onward stay)
+      where
+        chosen : out_act (tests w) j i (model searching q) ≡ backs (tests w) i w.n (noted j i (model searching q))
+        chosen = cond-false (bit w.takers i) (ended i (noted j i (model searching q))) (backs (tests w) i w.n (noted j i (model searching q))) t
 
-      stay : (k : ℕ) → i < k → k < w.n → out_test (tests w) j k (out_act (tests w) j i (model searching q)) ≡ out_test (tests w) j k (model searching q)
-      stay k a c =
-          let kept = backs_keep (tests w) i w.n (noted j i (model searching q)) in
-          ap (out_test (tests w) j k) chosen
-          ∙ ap₂ (λ x y. going x && (bit (get_or w.permitted j 0) k && not (y k))) kept.1 kept.0
-          ∙ ap (λ x. bit (get_or w.permitted j 0) k && not x) (mark_other (bit q.seen) i true k (λ x. omega arith))
+        there : model searching q' ≡ out_act (tests w) j i (model searching q)
+        there = h ∙ ap (backs (tests w) i w.n) (n searching) ∙ sym chosen
+
+        stay : (k : ℕ) → i < k → k < w.n → out_test (tests w) j k (out_act (tests w) j i (model searching q)) ≡ out_test (tests w) j k (model searching q)
+        stay k a c =
+            let kept = backs_keep (tests w) i w.n (noted j i (model searching q)) in
+            ap (out_test (tests w) j k) chosen
+            ∙ ap₂ (λ x y. going x && (bit (get_or w.permitted j 0) k && not (y k))) kept.1 kept.0
+            ∙ ap (λ x. bit (get_or w.permitted j 0) k && not x) (mark_other (bit q.seen) i true k (λ x. omega arith))

@@ -1,5 +1,5 @@
 -- A run on its way: the code's loop and the run of the theory.
-use Rattle.std.proofs.Common.{◌≡◌, ℕ, zero, suc, pred, ◌+◌, ◌*◌, ◌/◌, ◌%◌, ◌^◌, ◌<◌, ◌≤◌, Bool, true, false, cond, eqb, ◌⊎◌, List, [], get_or, sym, refl, ap, ◌∙◌, subst, ap₂, inl, inr, pow-suc, add-one, arith}
+use Rattle.std.proofs.Common.{◌≡◌, ℕ, zero, suc, pred, ◌+◌, ◌*◌, ◌/◌, ◌%◌, ◌^◌, ◌<◌, ◌≤◌, Bool, true, false, cond, eqb, ◌⊎◌, [], get_or, sym, refl, ap, ◌∙◌, subst, ap₂, inl, inr, pow-suc, add-one, arith}
 use mathlib.Core.Path.{fun_ext}
 use Rattle.std.proofs.lemmas.Nat.{mul-le}
 use Rattle.std.proofs.lemmas.Bool.{cases_lt}
@@ -19,15 +19,15 @@ use Rattle.flow.specs.Reached.{Reached}
 use Rattle.flow.proofs.Counting.{sum_n_most, bit_le}
 use Rattle.flow.proofs.Reached.{found_route, reached_step, reached_outgrown, reached_planned, reached_blocked}
 use Rattle.flow.proofs.Settled.{settled_from, settled_all}
-use Rattle.amounts.specs.Kind.{Kind}
+use Rattle.amounts.specs.declared.Amount.{Ghosts}
 use Rattle.planner.specs.declared.answer.Answer.TheVariants.{Plan, Blocked, Outgrown}
-use Rattle.planner.specs.declared.state.Words.{Words}
 use Rattle.planner.specs.declared.state.Seek.{Seek}
+use Rattle.planner.specs.declared.tables.Tables.{Tables}
 use Rattle.planner.specs.Answers.{answer_by, posed, Ran}
 use Rattle.planner.specs.Finds.{Leads}
 use Rattle.planner.specs.Model.{model, tests}
-use Rattle.planner.specs.Step.{InStep}
-use Rattle.planner.specs.Tables.{table, state_of}
+use Rattle.planner.specs.Same.{Same, state}
+use Rattle.planner.specs.Tables.{row, table}
 use Rattle.planner.specs.Ways.{trail, least_along, fits_along, writable_along, stepped}
 use Rattle.planner.proofs.Apart.{held_back_along}
 
@@ -44,93 +44,91 @@ limit_small t h = small t.n (pairs t) (pred t.n) h (omega arith) most
     small : (n p m : ℕ) → n ≤ 64 → m ≤ 63 → p ≤ n * (n * 1) → n + n + p * m ≤ 258176
     small n p m a b c = omega (arith, mul-le n (n * 1) 64 64 a (omega arith), mul-le p m 4096 63 (omega (arith, mul-le n (n * 1) 64 64 a (omega arith))) b)
 
-module _ {V : Type 0} (k : Kind V) (weights : ℕ → k.group.Element) (w₀ : Words) where
-  -- a run on its way
-  pub record Running (w : Words) (steps : ℕ) (xs gs rs : List V) : Type 0 where
-    pub kept : InStep k w xs gs rs
-    pub size : w.n ≡ w₀.n
-    pub rules : w.permitted ≡ w₀.permitted
-    pub reached : Reached k.group k.held (posed k w₀ weights) steps (state_of k xs gs rs)
+module _ {V : Type 0} {g : Ghosts V} (t₀ : Tables V g) where
+  -- what the tables pose as a run begins
+  abbrev pub task : Task g.kind.group.Element
+  task = posed g.kind t₀.words (row g.kind t₀.to_give.now)
 
-  module _ (w : Words) (steps : ℕ) (xs gs rs : List V) (p : Running w steps xs gs rs) where
+  -- a run on its way
+  pub record Running (t : Tables V g) (steps : ℕ) : Type 0 where
+    pub same : Same t₀ t
+    pub reached : Reached g.kind.group g.kind.held task steps (state t)
+
+  module _ (t : Tables V g) (steps : ℕ) (p : Running t steps) where
     -- the words pose the tests that the state does
-    agree : tests w ≡ told k.group (posed k w₀ weights) (state_of k xs gs rs)
+    agree : tests t.words ≡ told g.kind.group task (state t)
     agree =
         λ i. record {
-          n = p.size i;
-          permitted = λ a b. bit (get_or (p.rules i) a 0) b;
-          starts = fun_ext p.kept.giving i;
-          wants = fun_ext p.kept.getting i;
-          above = fun_ext (λ a. fun_ext (p.kept.holding a)) i;
+          n = p.same.size i;
+          permitted = λ a b. bit (get_or (p.same.rules i) a 0) b;
+          starts = fun_ext t.kept.giving i;
+          wants = fun_ext t.kept.getting i;
+          above = fun_ext (λ a. fun_ext (t.kept.holding a)) i;
         }
 
-    looked : (q : Search) → q ≡ search_all (tests w) → search_of k.group (posed k w₀ weights) (state_of k xs gs rs) ≡ q
+    looked : (q : Search) → q ≡ search_all (tests t.words) → search_of g.kind.group task (state t) ≡ q
     looked q h = sym (h ∙ ap search_all agree)
 
     -- no way is found
-    module _ (q : Seek) (h : model searching q ≡ search_all (tests w)) where
-      over : (search_of k.group (posed k w₀ weights) (state_of k xs gs rs)).ends ≡ searching
+    module _ (q : Seek) (h : model searching q ≡ search_all (tests t.words)) where
+      over : (search_of g.kind.group task (state t)).ends ≡ searching
       over = ap (λ r. r.ends) (looked (model searching q) h)
 
-      pub run_plans : w.givers ≡ 0 → Ran k (posed k w₀ weights) (Plan steps) xs gs rs
+      pub run_plans : t.words.givers ≡ 0 → Ran g.kind task (Plan steps) t.transfers.now t.to_give.now t.to_get.now
       run_plans e =
-          let end = reached_planned k.group k.held (posed k w₀ weights) steps (state_of k xs gs rs) p.reached over
-          (settled_from k.group (posed k w₀ weights) (state_of k xs gs rs) (λ j l. sym (p.kept.giving j) ∙ ap (λ v. bit v j) e ∙ bit_zero j)) in
+          let end = reached_planned g.kind.group g.kind.held task steps (state t) p.reached over
+          (settled_from g.kind.group task (state t) (λ j l. sym (t.kept.giving j) ∙ ap (λ v. bit v j) e ∙ bit_zero j)) in
           record { answer = sym (ap (λ o. answer_by o.end o.steps) end); state = sym (ap (λ o. o.state) end) }
 
-      pub run_blocks : 0 < w.givers → w.givers < 2 ^ 64 → q.reached < 2 ^ 64 → Ran k (posed k w₀ weights) (Blocked steps q.reached) xs gs rs
+      pub run_blocks : 0 < t.words.givers → t.words.givers < 2 ^ 64 → q.reached < 2 ^ 64
+          → Ran g.kind task (Blocked steps q.reached) t.transfers.now t.to_give.now t.to_get.now
       run_blocks some fits small =
-          let end = reached_blocked k.group k.held (posed k w₀ weights) steps (state_of k xs gs rs) p.reached over (unsettled (settled k.group (posed k w₀ weights) (state_of k xs gs rs)) refl) in
-          let set : word_of 64 (search_of k.group (posed k w₀ weights) (state_of k xs gs rs)).reached ≡ q.reached = ap (λ r. word_of 64 r.reached) (looked (model searching q) h) ∙ word_same 64 q.reached small in
+          let end = reached_blocked g.kind.group g.kind.held task steps (state t) p.reached over (unsettled (settled g.kind.group task (state t)) refl) in
+          let set : word_of 64 (search_of g.kind.group task (state t)).reached ≡ q.reached = ap (λ r. word_of 64 r.reached) (looked (model searching q) h) ∙ word_same 64 q.reached small in
           record { answer = sym (ap (λ o. answer_by o.end o.steps) end ∙ ap (Blocked steps) set); state = sym (ap (λ o. o.state) end) }
         where
-          none : settled k.group (posed k w₀ weights) (state_of k xs gs rs) ≡ true → (j : ℕ) → (j < w₀.n) ⊎ (w₀.n ≤ j) → bit w.givers j ≡ false
-          none e j (inl l) = p.kept.giving j ∙ settled_all k.group (posed k w₀ weights) (state_of k xs gs rs) e j l
-          none e j (inr l) = p.kept.fitted.givers j (subst (λ n. n ≤ j) (sym p.size) l)
+          none : settled g.kind.group task (state t) ≡ true → (j : ℕ) → (j < t₀.words.n) ⊎ (t₀.words.n ≤ j) → bit t.words.givers j ≡ false
+          none e j (inl l) = t.kept.giving j ∙ settled_all g.kind.group task (state t) e j l
+          none e j (inr l) = t.words.fitted.givers j (subst (λ n. n ≤ j) (sym p.same.size) l)
 
-          unsettled : (b : Bool) → settled k.group (posed k w₀ weights) (state_of k xs gs rs) ≡ b → settled k.group (posed k w₀ weights) (state_of k xs gs rs) ≡ false
+          unsettled : (b : Bool) → settled g.kind.group task (state t) ≡ b → settled g.kind.group task (state t) ≡ false
           unsettled false e = e
-          unsettled true e = absurd (omega (arith, bit_none 64 w.givers fits (λ j l. none e j (cases_lt j w₀.n))))
+          unsettled true e = absurd (omega (arith, bit_none 64 t.words.givers fits (λ j l. none e j (cases_lt j t₀.words.n))))
 
     -- a way is found
-    module _ (q : Seek) (z : ℕ) (h : Leads w q z) where
-      there : (search_of k.group (posed k w₀ weights) (state_of k xs gs rs)).ends ≡ found z
+    module _ (q : Seek) (z : ℕ) (h : Leads t.words q z) where
+      there : (search_of g.kind.group task (state t)).ends ≡ found z
       there = sym (ap (λ T. (search_all T).ends) agree) ∙ h.ends
 
-      same_way : way_to k.group (posed k w₀ weights) (state_of k xs gs rs) z ≡ trail w q z
-      same_way = sym (ap₂ (λ T m. trace T m (search_all T) ((search_all T).from z) []) agree p.size) ∙ h.way
+      same_way : way_to g.kind.group task (state t) z ≡ trail t.words q z
+      same_way = sym (ap₂ (λ T m. trace T m (search_all T) ((search_all T).from z) []) agree p.same.size) ∙ h.way
 
-      pub apart : (d : k.group.Element) → writable_along k (trail w q z) (state_of k xs gs rs) z d
-          ≡ held_along k.group k.held d (trail w q z).first (trail w q z).hops z (table k xs)
+      pub apart : (d : g.kind.group.Element) → writable_along g.kind (trail t.words q z) (state t) z d
+          ≡ held_along g.kind.group g.kind.held d (trail t.words q z).first (trail t.words q z).hops z (table g.kind t.transfers.now)
       apart d =
-          held_back_along k.group (posed k w₀ weights) (state_of k xs gs rs) k.held d 0 (trail w q z).first (trail w q z).hops z
-          (subst (λ y. Route k.group (posed k w₀ weights) (state_of k xs gs rs) 0 y.first y.hops z) same_way
-          (found_route k.group (posed k w₀ weights) (state_of k xs gs rs) z there).1)
+          held_back_along g.kind.group task (state t) g.kind.held d 0 (trail t.words q z).first (trail t.words q z).hops z
+          (subst (λ y. Route g.kind.group task (state t) 0 y.first y.hops z) same_way (found_route g.kind.group task (state t) z there).1)
 
       -- whether the step is held, as the run sees it
-      same_held : (r : Bool) → r ≡ fits_along k (trail w q z) (state_of k xs gs rs) z (least_along k (trail w q z) (state_of k xs gs rs) z)
-          → step_held k.group k.held (state_of k xs gs rs) (way_to k.group (posed k w₀ weights) (state_of k xs gs rs) z).first (way_to k.group (posed k w₀ weights) (state_of k xs gs rs) z).hops z ≡ r
+      same_held : (r : Bool) → r ≡ fits_along g.kind (trail t.words q z) (state t) z (least_along g.kind (trail t.words q z) (state t) z)
+          → step_held g.kind.group g.kind.held (state t) (way_to g.kind.group task (state t) z).first (way_to g.kind.group task (state t) z).hops z ≡ r
       unfolding step_held
-      same_held r e = ap (λ y. fits_along k y (state_of k xs gs rs) z (least_along k y (state_of k xs gs rs) z)) same_way ∙ sym e
+      same_held r e = ap (λ y. fits_along g.kind y (state t) z (least_along g.kind y (state t) z)) same_way ∙ sym e
 
-      pub run_outgrown : (r : Bool) → r ≡ false → r ≡ fits_along k (trail w q z) (state_of k xs gs rs) z (least_along k (trail w q z) (state_of k xs gs rs) z)
-          → (xs' gs' rs' : List V) → state_of k xs' gs' rs' ≡ state_of k xs gs rs → Ran k (posed k w₀ weights) (Outgrown steps) xs' gs' rs'
-      run_outgrown r refused e xs' gs' rs' left =
-          let end = reached_outgrown k.group k.held (posed k w₀ weights) steps (state_of k xs gs rs) p.reached z there (same_held r e ∙ refused) in
-          record { answer = sym (ap (λ o. answer_by o.end o.steps) end); state = left ∙ sym (ap (λ o. o.state) end) }
+      module _ (r : Bool) (e : r ≡ fits_along g.kind (trail t.words q z) (state t) z (least_along g.kind (trail t.words q z) (state t) z)) (u : Tables V g) where
+        pub run_outgrown : r ≡ false → state u ≡ state t → Ran g.kind task (Outgrown steps) u.transfers.now u.to_give.now u.to_get.now
+        run_outgrown refused left =
+            let end = reached_outgrown g.kind.group g.kind.held task steps (state t) p.reached z there (same_held r e ∙ refused) in
+            record { answer = sym (ap (λ o. answer_by o.end o.steps) end); state = left ∙ sym (ap (λ o. o.state) end) }
 
-      pub run_steps : Ordered k.group → ((j : ℕ) → j < w₀.n → Le k.group k.group.nil (weights j))
-          → (r : Bool) → r ≡ true → r ≡ fits_along k (trail w q z) (state_of k xs gs rs) z (least_along k (trail w q z) (state_of k xs gs rs) z)
-          → (w' : Words) (xs' gs' rs' : List V) → InStep k w' xs' gs' rs' → w'.n ≡ w.n → w'.permitted ≡ w.permitted
-          → state_of k xs' gs' rs' ≡ stepped k (trail w q z) (state_of k xs gs rs) z → Running w' (steps + 1) xs' gs' rs'
-      run_steps L least r done-so e w' xs' gs' rs' kept en ep done =
-          record {
-            kept = kept;
-            size = en ∙ p.size;
-            rules = ep ∙ p.rules;
-            reached =
-                subst (λ c. Reached k.group k.held (posed k w₀ weights) c (state_of k xs' gs' rs')) (sym (add-one steps))
-                (subst (Reached k.group k.held (posed k w₀ weights) (suc steps))
-                (sym (done ∙ ap (λ y. augment k.group y.first y.hops z (state_of k xs gs rs)) (sym same_way)))
-                (reached_step k.group L k.held (posed k w₀ weights) least steps (state_of k xs gs rs) p.reached z there (same_held r e ∙ done-so)));
-          }
+        pub run_steps : Ordered g.kind.group → ((j : ℕ) → j < t₀.words.n → Le g.kind.group g.kind.group.nil (row g.kind t₀.to_give.now j))
+            → r ≡ true → Same t₀ u → state u ≡ stepped g.kind (trail t.words q z) (state t) z → Running u (steps + 1)
+        run_steps L least done-so same done =
+            record {
+              same = same;
+              reached =
+                  subst (λ c. Reached g.kind.group g.kind.held task c (state u)) (sym (add-one steps))
+                  (subst (Reached g.kind.group g.kind.held task (suc steps))
+                  (sym (done ∙ ap (λ y. augment g.kind.group y.first y.hops z (state t)) (sym same_way)))
+                  (reached_step g.kind.group L g.kind.held task least steps (state t) p.reached z there (same_held r e ∙ done-so)));
+            }

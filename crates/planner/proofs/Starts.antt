@@ -13,7 +13,7 @@ use Rattle.flow.specs.Search.{searching}
 use Rattle.planner.specs.declared.state.Seek.{Seek}
 use Rattle.planner.specs.declared.state.Words.{Words}
 use Rattle.flow.specs.Search.{Tests, start_test, start_act, starters, fresh}
-use Rattle.planner.specs.Model.{model, tests, Sound, Fitted}
+use Rattle.planner.specs.Model.{model, tests, Sound}
 
 abbrev pub Starting : Words → ℕ → List ℕ → Type 0
 Starting w v ps = Swept (start_test (tests w)) (start_act (tests w)) w.n [] v ps
@@ -28,10 +28,10 @@ length_starters t (suc m) = go (t.starts m) (length_starters t m)
     go true ih = length-append (starters t m) (m ∷ []) ∙ ap (λ x. x + 1) ih
     go false ih = omega arith
 
-pub starts_start : (w : Words) → Fitted w → Starting w w.givers []
-starts_start w f = sweep_starts (start_test (tests w)) (start_act (tests w)) w.n [] w.givers f.givers (λ k a. refl)
+pub starts_start : (w : Words) → Starting w w.givers []
+starts_start w = sweep_starts (start_test (tests w)) (start_act (tests w)) w.n [] w.givers w.fitted.givers (λ k a. refl)
 
-module _ (w : Words) (queue : List ℕ) (tail v k u : ℕ) (f : Fitted w) (b : Starting w v (take tail queue)) (e : length queue ≡ 64) (o : tail < 65) (l : Lowest v k u) where
+module _ (w : Words) (queue : List ℕ) (tail v k u : ℕ) (b : Starting w v (take tail queue)) (e : length queue ≡ 64) (o : tail < 65) (l : Lowest v k u) where
   acts : Acts (start_test (tests w)) (start_act (tests w)) w.n [] (take tail queue) k u
   acts = sweep_acts (start_test (tests w)) (start_act (tests w)) w.n [] v (take tail queue) k u b l
 
@@ -40,7 +40,7 @@ module _ (w : Words) (queue : List ℕ) (tail v k u : ℕ) (f : Fitted w) (b : S
       let a : length (take tail queue) + 1 ≡ count (suc k) (bit w.givers) =
       sym (length-append (take tail queue) (k ∷ [])) ∙ ap length acts.done ∙ length_starters (tests w) (suc k) in
       let t : length (take tail queue) ≡ tail = simp length-take (omega arith) in
-      omega (arith, a, t, count_most (suc k) (bit w.givers), acts.within, f.size)
+      omega (arith, a, t, count_most (suc k) (bit w.givers), acts.within, w.fitted.size)
 
   pub starts_next : Starting w u (take (tail + 1) (set queue tail k))
   starts_next =

@@ -10,7 +10,7 @@ use Rattle.flow.proofs.Visits.{clash}
 use Rattle.planner.specs.declared.state.Seek.{Seek}
 use Rattle.planner.specs.declared.state.Words.{Words}
 use Rattle.planner.specs.Finds.{Leads, Straight}
-use Rattle.planner.specs.Model.{model, tests, Sound, Fitted}
+use Rattle.planner.specs.Model.{model, tests, Sound}
 use Rattle.planner.proofs.Starts.{zeros}
 
 -- a way back from a giver with something to give ends there
@@ -28,23 +28,23 @@ inside v n k none e = go (cases_lt k n)
     go (inr l) = clash (bit v k) e (none k l)
 
 -- the first giver with something to give, and the first permitted receiver who has something to get
-pub straight_ends : (w : Words) → Fitted w → (j v i : ℕ) → (j < 64) × (bit w.givers j ≡ true) × ((k : ℕ) → k < j → bit w.givers k ≡ false)
+pub straight_ends : (w : Words) → (j v i : ℕ) → (j < 64) × (bit w.givers j ≡ true) × ((k : ℕ) → k < j → bit w.givers k ≡ false)
     → ((a : ℕ) → bit v a ≡ (bit (get_or w.permitted j 0) a && bit w.takers a))
     → (i < 64) × (bit v i ≡ true) × ((k : ℕ) → k < i → bit v k ≡ false) → Straight w j i
-straight_ends w f j v i first both low =
-    let giver = inside w.givers w.n j f.givers first.1 in
+straight_ends w j v i first both low =
+    let giver = inside w.givers w.n j w.fitted.givers first.1 in
     let here = and_parts (bit (get_or w.permitted j 0) i) (bit w.takers i) (sym (both i) ∙ low.1) in
-    let receiver = inside (get_or w.permitted j 0) w.n i (f.permits j) here.0 in
+    let receiver = inside (get_or w.permitted j 0) w.n i (w.fitted.permits j) here.0 in
     let end = at_once (tests w) j giver first.1 first.2 i receiver here.0 here.1 (λ k l. sym (both k) ∙ low.2 k l) in
     record { giver = giver; receiver = receiver; starts = first.1; ends = end.ends; from = end.from }
 
-module _ (w : Words) (j i : ℕ) (s : Straight w j i) (f : Fitted w) where
+module _ (w : Words) (j i : ℕ) (s : Straight w j i) where
   abbrev straight : Seek
   straight =
       record { queue = replicate 64 0; head = 0; tail = 0; reached = w.givers; seen = 0; from = set (replicate 64 0) i j; via = replicate 64 0 }
 
   back : get_or (set (replicate 64 0) i j) i 0 ≡ j
-  back = get_or-set_same (replicate 64 0) i j 0 (omega (arith, s.receiver, f.size))
+  back = get_or-set_same (replicate 64 0) i j 0 (omega (arith, s.receiver, w.fitted.size))
 
   pub straight_leads : Leads w straight i
   straight_leads = record {

@@ -8,7 +8,7 @@ use Rattle.flow.specs.Search.{Ends, searching, found, Search}
 use Rattle.planner.specs.declared.state.Seek.{Seek}
 use Rattle.planner.specs.declared.state.Words.{Words}
 use Rattle.flow.specs.Search.{Tests, outs, turn_at, turns, fresh, search_all}
-use Rattle.planner.specs.Model.{model, tests, Sound, Fitted}
+use Rattle.planner.specs.Model.{model, tests, Sound}
 
 -- once nothing moves, nothing moves again
 pub turns_rest : (t : Tests) (c m : ℕ) (q : Search) → c ≤ m
@@ -26,10 +26,10 @@ module _ (w : Words) (q : Seek) (s : Sound w.n q) where
   tail_most = omega (arith, s.room, count_most w.n (bit q.reached))
 
   -- the queue is empty
-  pub turns_end : (z : Ends) → Fitted w → q.tail ≤ q.head → model searching q ≡ turns (tests w) q.head (fresh (tests w))
+  pub turns_end : (z : Ends) → q.tail ≤ q.head → model searching q ≡ turns (tests w) q.head (fresh (tests w))
       → model searching q ≡ search_all (tests w)
   unfolding search_all
-  turns_end z f h e =
+  turns_end z h e =
       e ∙ sym (turns_rest (tests w) q.head w.n (fresh (tests w)) (omega (arith, tail_most, s.ahead))
       (subst (λ p. turn_at (tests w) p.ends p.pending p ≡ p) e (ap (λ ps. turn_at (tests w) searching ps (model searching q)) none)))
     where
@@ -56,23 +56,23 @@ module _ (w : Words) (q : Seek) (s : Sound w.n q) where
       bridges = s.bridges;
     }
 
-    pending : Fitted w → drop q.head (take q.tail q.queue) ≡ get_or q.queue q.head 0 ∷ drop (q.head + 1) (take q.tail q.queue)
-    pending f =
-        drop_more (take q.tail q.queue) q.head 0 (simp length-take (omega (arith, tail_most, s.queues, f.size)))
+    pending : drop q.head (take q.tail q.queue) ≡ get_or q.queue q.head 0 ∷ drop (q.head + 1) (take q.tail q.queue)
+    pending =
+        drop_more (take q.tail q.queue) q.head 0 (simp length-take (omega (arith, tail_most, s.queues, w.fitted.size)))
         ∙ ap (λ j. j ∷ drop (q.head + 1) (take q.tail q.queue)) (get_or-take q.tail q.queue q.head 0 h)
 
-    pub turn_made : Fitted w → model searching q ≡ turns (tests w) q.head (fresh (tests w)) → (p : Search)
+    pub turn_made : model searching q ≡ turns (tests w) q.head (fresh (tests w)) → (p : Search)
         → p ≡ outs (tests w) (get_or q.queue q.head 0) w.n (model searching left) → p ≡ turns (tests w) (q.head + 1) (fresh (tests w))
     unfolding turns
-    turn_made f e p o =
-        o ∙ sym (ap (λ ps. turn_at (tests w) searching ps (model searching q)) (pending f))
+    turn_made e p o =
+        o ∙ sym (ap (λ ps. turn_at (tests w) searching ps (model searching q)) pending)
         ∙ ap (λ r. turn_at (tests w) r.ends r.pending r) e
         ∙ ap (λ c. turns (tests w) c (fresh (tests w))) (sym (add-one q.head))
 
-    pub turn_found : Fitted w → model searching q ≡ turns (tests w) q.head (fresh (tests w)) → (i : ℕ) (q' : Seek)
+    pub turn_found : model searching q ≡ turns (tests w) q.head (fresh (tests w)) → (i : ℕ) (q' : Seek)
         → model (found i) q' ≡ outs (tests w) (get_or q.queue q.head 0) w.n (model searching left) → model (found i) q' ≡ search_all (tests w)
     unfolding search_all
-    turn_found f e i q' o =
-        let made = turn_made f e (model (found i) q') o in
+    turn_found e i q' o =
+        let made = turn_made e (model (found i) q') o in
         made ∙ sym (turns_rest (tests w) (q.head + 1) w.n (fresh (tests w)) (omega (arith, tail_most))
         (subst (λ p. turn_at (tests w) p.ends p.pending p ≡ p) made refl))

@@ -1,5 +1,6 @@
 -- The way back along a search, one link at a time.
-use Rattle.std.proofs.Common.{◌≡◌, ℕ, zero, suc, ◌+◌, ◌-◌, ◌<◌, ◌≤◌, Bool, true, false, cond, ◌&&◌, List, [], ◌∷◌, get_or, sym, refl, ap, ◌∙◌, subst, ap₂, arith}
+use Rattle.std.proofs.Common.{◌≡◌, ℕ, zero, suc, ◌<◌, Bool, true, false, cond, ◌&&◌, ◌⊎◌, List, [], ◌∷◌, get_or, sym, refl, ap, ◌∙◌, subst, ap₂, inl, inr, arith}
+use Rattle.std.proofs.Math.Bool.{and_comm, and_assoc}
 use Rattle.std.proofs.lemmas.Bool.{cond-true, cond-false, and_parts}
 use Rattle.words.specs.Words.{bit}
 use Rattle.groups.specs.Group.{Ordered}
@@ -9,66 +10,102 @@ use Rattle.flow.specs.Routes.{Hop, bump, push, least, amount, held_along}
 use Rattle.flow.specs.Search.{Way, trace, found}
 use Rattle.flow.proofs.Pushes.{push_back}
 use Rattle.amounts.specs.Kind.{Kind}
+use Rattle.planner.specs.declared.hops.Hops.{Hops}
+use Rattle.planner.specs.declared.state.Link.{Link}
 use Rattle.planner.specs.declared.state.Words.{Words}
 use Rattle.planner.specs.declared.state.Seek.{Seek}
+use Rattle.planner.specs.Hops.{Ends, GoesOn}
 use Rattle.planner.specs.Model.{model, tests, Sound}
 use Rattle.planner.specs.Tables.{table}
 use Rattle.planner.specs.Ways.{trail, least_along, fits_along, held_back}
 
 module _ (w : Words) (q : Seek) (z : ℕ) where
-  -- the way from giver j on, when c links of it have been walked
+  -- the way from giver j on, when m more links of it may be walked
   abbrev pub On : ℕ → ℕ → List Hop → Type 0
-  On c j hs = trail w q z ≡ trace (tests w) (w.n - c) (model (found z) q) j hs
+  On m j hs = trail w q z ≡ trace (tests w) m (model (found z) q) j hs
 
-  pub on_start : On 0 (get_or q.from z 0) []
-  on_start = let e : w.n ≡ w.n - 0 = omega arith in ap (λ b. trace (tests w) b (model (found z) q) (get_or q.from z 0) []) e
+  -- where the walk back stands, after these hops
+  pub record Back (s : Hops) (hs : List Hop) : Type 0 where
+    pub on : On s.turns s.giver hs
+    pub inside : s.giver < w.n
+    pub seek : s.seek.now ≡ q
+    pub givers : s.givers ≡ w.givers
 
-  module _ (c j : ℕ) (hs : List Hop) where
+  pub back_start : (s : Hops) → z < w.n → Sound w.n q → s.seek.now ≡ q → s.givers ≡ w.givers → s.turns ≡ w.n → s.giver ≡ get_or q.from z 0 → Back s []
+  back_start s l f eq eg et ej =
+      record {
+        on = ap₂ (λ m j. trace (tests w) m (model (found z) q) j []) (sym et) (sym ej);
+        inside = subst (λ j. j < w.n) (sym ej) (f.sources z (omega arith));
+        seek = eq;
+        givers = eg;
+      }
+
+  -- the hop of a link
+  abbrev pub hop_of : Link → Hop
+  hop_of l = record { over = l.receiver; to = l.giver }
+
+  module _ (s t : Hops) (l : Link) (hs : List Hop) (g : GoesOn s l t) (p : Back s hs) where
     further : Way
-    further = trace (tests w) (w.n - (c + 1)) (model (found z) q) (get_or q.from (get_or q.via j 0) 0) (record { over = get_or q.via j 0; to = j } ∷ hs)
+    further = trace (tests w) t.turns (model (found z) q) (get_or q.from (get_or q.via s.giver 0) 0) (record { over = get_or q.via s.giver 0; to = s.giver } ∷ hs)
 
-    pub on_next : c < w.n → bit w.givers j ≡ false → On c j hs
-        → On (c + 1) (get_or q.from (get_or q.via j 0) 0) (record { over = get_or q.via j 0; to = j } ∷ hs)
+    over : get_or q.via s.giver 0 ≡ l.receiver
+    over = sym (g.receiver ∙ ap (λ a. get_or a.via s.giver 0) p.seek)
+
+    there : get_or q.from (get_or q.via s.giver 0) 0 ≡ t.giver
+    there = ap (λ a. get_or q.from a 0) over ∙ sym (g.further ∙ ap (λ a. get_or a.from l.receiver 0) p.seek)
+
+    on_next : On t.turns (get_or q.from (get_or q.via s.giver 0) 0) (record { over = get_or q.via s.giver 0; to = s.giver } ∷ hs)
     unfolding trace further
-    on_next l t o =
-        let e : w.n - c ≡ suc (w.n - (c + 1)) = omega arith in
-        o ∙ ap (λ b. trace (tests w) b (model (found z) q) j hs) e ∙ cond-false (bit w.givers j) (record { first = j; hops = hs }) further t
+    on_next =
+        p.on ∙ ap (λ b. trace (tests w) b (model (found z) q) s.giver hs) g.turns
+        ∙ cond-false (bit w.givers s.giver) (record { first = s.giver; hops = hs }) further (ap (λ v. bit v s.giver) (sym p.givers) ∙ g.empty)
 
-    pub on_found : c < w.n → bit w.givers j ≡ true → On c j hs → trail w q z ≡ record { first = j; hops = hs }
-    unfolding trace further
-    on_found l t o =
-        let e : w.n - c ≡ suc (w.n - (c + 1)) = omega arith in
-        o ∙ ap (λ b. trace (tests w) b (model (found z) q) j hs) e ∙ cond-true (bit w.givers j) (record { first = j; hops = hs }) further t
+    pub back_next : Sound w.n q → Back t (hop_of l ∷ hs)
+    back_next f =
+        record {
+          on = on_next
+              ∙ ap₂ (λ j h. trace (tests w) t.turns (model (found z) q) j (h ∷ hs)) there (ap₂ (λ a b. record { over = a; to = b }) over (sym g.giver));
+          inside = subst (λ j. j < w.n) there (f.sources (get_or q.via s.giver 0) (omega (arith, p.inside)));
+          seek = g.seek ∙ p.seek;
+          givers = g.givers ∙ p.givers;
+        }
 
-    pub on_over : w.n ≤ c → On c j hs → trail w q z ≡ record { first = j; hops = hs }
-    unfolding trace
-    on_over l o = let e : w.n - c ≡ 0 = omega arith in o ∙ ap (λ b. trace (tests w) b (model (found z) q) j hs) e
+    pub link_inside : Sound w.n q → (l.giver < w.n) × (l.receiver < w.n)
+    link_inside f =
+        (subst (λ a. a < w.n) (sym g.giver) p.inside, subst (λ a. a < w.n) over (f.bridges s.giver (omega (arith, p.inside))))
+
+  pub back_end : (s t : Hops) (hs : List Hop) → Ends s t → Back s hs → (t.giver < w.n) × (trail w q z ≡ record { first = t.giver; hops = hs })
+  unfolding trace
+  back_end s t hs e p = (subst (λ j. j < w.n) (sym e.giver) p.inside, p.on ∙ go s.turns e.starts ∙ ap (λ j. record { first = j; hops = hs }) (sym e.giver))
+    where
+      go : (m : ℕ) → (m ≡ 0) ⊎ (bit s.givers s.giver ≡ true) → trace (tests w) m (model (found z) q) s.giver hs ≡ record { first = s.giver; hops = hs }
+      go zero e = refl
+      go (suc m) (inl e) = absurd (omega arith)
+      go (suc m) (inr e) = cond-true (bit w.givers s.giver) (record { first = s.giver; hops = hs }) _ (ap (λ v. bit v s.giver) (sym p.givers) ∙ e)
 
 module _ {V : Type 0} (k : Kind V) (w : Words) (s : State k.group.Element) (q : Seek) (z : ℕ) where
   -- the least of the amounts on the links walked
-  pub record Least (c j : ℕ) (d : V) : Type 0 where
+  pub record Least (h : Hops) (d : V) : Type 0 where
     pub hops : List Hop
-    pub on : On w q z c j hops
-    pub inside : j < w.n
+    pub back : Back w q z h hops
     pub good : k.value d ≡ true
     pub value : k.element d ≡ least k.group s.x (s.r z) hops
 
-  pub least_next : (c j : ℕ) (d : V) (x e : V) → c < w.n → Sound w.n q → bit w.givers j ≡ false → k.element x ≡ s.x j (get_or q.via j 0)
+  pub least_next : (h t : Hops) (l : Link) (d x e : V) → Sound w.n q → GoesOn h l t → k.element x ≡ s.x l.giver l.receiver
       → k.value e ≡ true → k.element e ≡ lesser k.group (k.element x) (k.element d)
-      → Least c j d → Least (c + 1) (get_or q.from (get_or q.via j 0) 0) e
-  least_next c j d x e l f t a g h p =
+      → Least h d → Least t e
+  least_next h t l d x e f g a v m p =
       record {
-        hops = record { over = get_or q.via j 0; to = j } ∷ p.hops;
-        on = on_next w q z c j p.hops l t p.on;
-        inside = f.sources (get_or q.via j 0) (omega arith);
-        good = g;
-        value = h ∙ ap₂ (lesser k.group) a p.value;
+        hops = hop_of w q z l ∷ p.hops;
+        back = back_next w q z h t l p.hops g p.back f;
+        good = v;
+        value = m ∙ ap₂ (lesser k.group) a p.value;
       }
 
-  pub least_end : (j : ℕ) (hs : List Hop) (d x r : V) → trail w q z ≡ record { first = j; hops = hs } → k.element d ≡ least k.group s.x (s.r z) hs
-      → k.element x ≡ s.g j → k.element r ≡ lesser k.group (k.element x) (k.element d) → k.element r ≡ least_along k (trail w q z) s z
+  pub least_end : (h t : Hops) (d x r : V) → Ends h t → (p : Least h d)
+      → k.element x ≡ s.g t.giver → k.element r ≡ lesser k.group (k.element x) (k.element d) → k.element r ≡ least_along k (trail w q z) s z
   unfolding amount
-  least_end j hs d x r t v a h = h ∙ ap₂ (lesser k.group) a v ∙ ap (λ y. amount k.group s y.first y.hops z) (sym t)
+  least_end h t d x r e p a m = m ∙ ap₂ (lesser k.group) a p.value ∙ ap (λ y. amount k.group s y.first y.hops z) (sym (back_end w q z h t p.hops e p.back).1)
 
   -- the amounts that d would leave on the links walked, but for the first one, are held
   abbrev pub behind : k.group.Element → List Hop → Bool
@@ -90,66 +127,55 @@ module _ {V : Type 0} (k : Kind V) (w : Words) (s : State k.group.Element) (q : 
   held_all d v (h ∷ hs) = refl
 
   -- so far as the links were walked, the test says whether d fits
-  pub record Fits (d : k.group.Element) (c i : ℕ) (ok : Bool) : Type 0 where
+  pub record Fits (d : k.group.Element) (h : Hops) (i : ℕ) (ok : Bool) : Type 0 where
     pub hops : List Hop
-    pub on : On w q z c (get_or q.from i 0) hops
+    pub back : Back w q z h hops
     pub inside : i < w.n
     pub there : i ≡ leads hops
     pub told : ok ≡ behind d hops
 
   module _ (d : k.group.Element) where
-    pub fits_start : z < w.n → Fits d 0 z true
-    fits_start l = record { hops = []; on = on_start w q z; inside = l; there = refl; told = refl }
+    pub fits_start : (h : Hops) → z < w.n → Back w q z h [] → Fits d h z true
+    fits_start h l p = record { hops = []; back = p; inside = l; there = refl; told = refl }
 
     -- the first link too
-    along : (c i : ℕ) (ok sum : Bool) → (p : Fits d c i ok) → sum ≡ k.held (k.group.plus (s.x (get_or q.from i 0) i) d)
-        → (sum && ok) ≡ held_along k.group k.held d (get_or q.from i 0) p.hops z s.x
-    along c i ok sum p h =
-        ap₂ (λ a b. a && b) (h ∙ ap (λ r. k.held (k.group.plus (s.x (get_or q.from i 0) r) d)) p.there) p.told
-        ∙ held_all d (get_or q.from i 0) p.hops
+    along : (j i : ℕ) (hs : List Hop) (ok sum : Bool) → i ≡ leads hs → ok ≡ behind d hs → sum ≡ k.held (k.group.plus (s.x j i) d)
+        → (ok && sum) ≡ held_along k.group k.held d j hs z s.x
+    along j i hs ok sum e t h =
+        and_comm ok sum ∙ ap₂ (λ a b. a && b) (h ∙ ap (λ r. k.held (k.group.plus (s.x j r) d)) e) t ∙ held_all d j hs
 
-    pub fits_next : (c i j b : ℕ) (ok sum less : Bool) → c < w.n → Sound w.n q → j ≡ get_or q.from i 0 → b ≡ get_or q.via j 0 → bit w.givers j ≡ false
-        → sum ≡ k.held (k.group.plus (s.x j i) d) → less ≡ k.held (minus k.group (s.x j b) d)
-        → Fits d c i ok → Fits d (c + 1) b (less && (sum && ok))
-    fits_next c i j b ok sum less l f ej eb t hs hl p =
+    pub fits_next : (h t : Hops) (l : Link) (i : ℕ) (ok sum less : Bool) → Sound w.n q → GoesOn h l t
+        → sum ≡ k.held (k.group.plus (s.x l.giver i) d) → less ≡ k.held (minus k.group (s.x l.giver l.receiver) d)
+        → Fits d h i ok → Fits d t l.receiver ((ok && sum) && less)
+    fits_next h t l i ok sum less f g hs hl p =
         record {
-          hops = record { over = b; to = j } ∷ p.hops;
-          on =
-              subst (λ a. On w q z (c + 1) (get_or q.from a 0) (record { over = a; to = j } ∷ p.hops)) (sym eb)
-              (on_next w q z c j p.hops l t (subst (λ a. On w q z c a p.hops) (sym ej) p.on));
-          inside = subst (λ a. a < w.n) (sym eb) (f.bridges j (omega arith));
+          hops = hop_of w q z l ∷ p.hops;
+          back = back_next w q z h t l p.hops g p.back f;
+          inside = (link_inside w q z h t l p.hops g p.back f).1;
           there = refl;
-          told =
-              ap₂ (λ a o. a && o) hl
-              (along c i ok sum p (hs ∙ ap (λ a. k.held (k.group.plus (s.x a i) d)) ej)
-              ∙ ap (λ a. held_along k.group k.held d a p.hops z s.x) (sym ej));
+          told = and_comm (ok && sum) less ∙ ap₂ (λ a o. a && o) hl (along l.giver i p.hops ok sum p.there p.told hs);
         }
 
-    pub fits_end : (c i j : ℕ) (ok sum give get : Bool) → j ≡ get_or q.from i 0 → (p : Fits d c i ok)
-        → ((On w q z c j p.hops) → trail w q z ≡ record { first = j; hops = p.hops })
-        → sum ≡ k.held (k.group.plus (s.x j i) d) → give ≡ k.held (minus k.group (s.g j) d) → get ≡ k.held (minus k.group (s.r z) d)
-        → ((sum && ok) && (give && get)) ≡ fits_along k (trail w q z) s z d
-    fits_end c i j ok sum give get ej p t hs hg hr =
-        let e = t (subst (λ a. On w q z c a p.hops) (sym ej) p.on) in
-        ap₂ (λ a b. a && b)
-        (along c i ok sum p (hs ∙ ap (λ a. k.held (k.group.plus (s.x a i) d)) ej)
-        ∙ ap (λ a. held_along k.group k.held d a p.hops z s.x) (sym ej))
-        (ap₂ (λ a b. a && b) hg hr)
-        ∙ ap (λ y. fits_along k y s z d) (sym e)
+    pub fits_end : (h t : Hops) (i : ℕ) (ok sum give get : Bool) → Ends h t → (p : Fits d h i ok)
+        → sum ≡ k.held (k.group.plus (s.x t.giver i) d) → give ≡ k.held (minus k.group (s.g t.giver) d) → get ≡ k.held (minus k.group (s.r z) d)
+        → (((ok && sum) && give) && get) ≡ fits_along k (trail w q z) s z d
+    fits_end h t i ok sum give get e p hs hg hr =
+        and_assoc (ok && sum) give get ∙ ap₂ (λ a b. a && b) (along t.giver i p.hops ok sum p.there p.told hs) (ap₂ (λ a b. a && b) hg hr)
+        ∙ ap (λ y. fits_along k y s z d) (sym (back_end w q z h t p.hops e p.back).1)
 
     -- d has been moved along the links walked, but for the first one, from the giver of receiver i; the table xs is what that left
-    pub record Moved (c i : ℕ) (xs : List V) : Type 0 where
+    pub record Moved (h : Hops) (i : ℕ) (xs : List V) : Type 0 where
       pub hops : List Hop
-      pub on : On w q z c (get_or q.from i 0) hops
+      pub back : Back w q z h hops
       pub inside : i < w.n
       pub half : (v : ℕ) → (writable : held_back k.group k.held d v hops z s.x ≡ true) → k.held (k.group.plus (table k xs v i) d) ≡ true
       pub moved : (v : ℕ) → bump k.group (table k xs) v i d ≡ push k.group d v hops z s.x
 
-    pub moved_start : (xs : List V) → z < w.n → table k xs ≡ s.x → Moved 0 z xs
-    moved_start xs l e =
+    pub moved_start : (h : Hops) (xs : List V) → z < w.n → Back w q z h [] → table k xs ≡ s.x → Moved h z xs
+    moved_start h xs l p e =
         record {
           hops = [];
-          on = on_start w q z;
+          back = p;
           inside = l;
           half = λ v h. ap (λ y. k.held (k.group.plus (y v z) d)) e ∙ h;
           moved = λ v. ap (λ y. bump k.group y v z d) e;
@@ -174,39 +200,42 @@ module _ {V : Type 0} (k : Kind V) (w : Words) (s : State k.group.Element) (q : 
         go true h ih = h
         go false h ih = (and_parts (held_back k.group k.held d j hs z s.x) _ (ih h)).0
 
-    pub writable_on : (c j : ℕ) (hs : List Hop) → On w q z c j hs → held_back k.group k.held d (trail w q z).first (trail w q z).hops z s.x ≡ true
-        → held_back k.group k.held d j hs z s.x ≡ true
-    unfolding Writable
-    writable_on c j hs o h = writable_from (w.n - c) j hs (subst Writable o h)
+    module _ (writable : held_back k.group k.held d (trail w q z).first (trail w q z).hops z s.x ≡ true) where
+      writable_on : (m j : ℕ) (hs : List Hop) → On w q z m j hs → held_back k.group k.held d j hs z s.x ≡ true
+      unfolding Writable
+      writable_on m j hs o = writable_from m j hs (subst Writable o writable)
 
-    module _ (c i j : ℕ) (xs ys : List V) (ej : j ≡ get_or q.from i 0) (raised : table k ys ≡ bump k.group (table k xs) j i d) (p : Moved c i xs) where
-      on_here : On w q z c j p.hops
-      on_here = subst (λ a. On w q z c a p.hops) (sym ej) p.on
+      -- the link on which the walk stands may be raised
+      pub raise_room : (h : Hops) (i : ℕ) (xs : List V) → Moved h i xs → k.held (k.group.plus (table k xs h.giver i) d) ≡ true
+      raise_room h i xs p = p.half h.giver (writable_on h.turns h.giver p.hops p.back.on)
 
+    pub moved_end : (h t : Hops) (i : ℕ) (xs ys : List V) → Ends h t → (p : Moved h i xs) → table k ys ≡ bump k.group (table k xs) t.giver i d
+        → (t.giver ≡ (trail w q z).first) × (table k ys ≡ push k.group d (trail w q z).first (trail w q z).hops z s.x)
+    moved_end h t i xs ys e p raised =
+        let way = (back_end w q z h t p.hops e p.back).1 in
+        (ap (λ y. y.first) (sym way), raised ∙ p.moved t.giver ∙ ap (λ y. push k.group d y.first y.hops z s.x) (sym way))
+
+    module _ (h t : Hops) (l : Link) (i : ℕ) (xs ys : List V) (g : GoesOn h l t) (f : Sound w.n q) (p : Moved h i xs)
+        (raised : table k ys ≡ bump k.group (table k xs) l.giver i d) where
       -- the first link too
-      whole : table k ys ≡ push k.group d j p.hops z s.x
-      whole = raised ∙ p.moved j
+      whole : table k ys ≡ push k.group d l.giver p.hops z s.x
+      whole = raised ∙ p.moved l.giver
 
-      pub moved_end : (trail w q z ≡ record { first = j; hops = p.hops }) → (j ≡ (trail w q z).first) × (table k ys ≡ push k.group d (trail w q z).first (trail w q z).hops z s.x)
-      moved_end e = (ap (λ y. y.first) (sym e), whole ∙ ap (λ y. push k.group d y.first y.hops z s.x) (sym e))
+      on_further : Back w q z t (hop_of w q z l ∷ p.hops)
+      on_further = back_next w q z h t l p.hops g p.back f
 
-      module _ (b : ℕ) (eb : b ≡ get_or q.via j 0) (l : c < w.n) (t : bit w.givers j ≡ false) where
-        on_further : On w q z (c + 1) (get_or q.from b 0) (record { over = b; to = j } ∷ p.hops)
-        on_further =
-            subst (λ a. On w q z (c + 1) (get_or q.from a 0) (record { over = a; to = j } ∷ p.hops)) (sym eb) (on_next w q z c j p.hops l t on_here)
+      pub lower_room : held_back k.group k.held d (trail w q z).first (trail w q z).hops z s.x ≡ true → k.held (minus k.group (table k ys l.giver l.receiver) d) ≡ true
+      lower_room writable =
+          ap (λ y. k.held (minus k.group (y l.giver l.receiver) d)) whole
+          ∙ (and_parts _ _ (and_parts (held_back k.group k.held d l.giver p.hops z s.x) _ (writable_on writable t.turns t.giver (hop_of w q z l ∷ p.hops) on_further.on)).1).0
 
-        pub lower_room : held_back k.group k.held d (trail w q z).first (trail w q z).hops z s.x ≡ true → k.held (minus k.group (table k ys j b) d) ≡ true
-        lower_room h =
-            ap (λ y. k.held (minus k.group (y j b) d)) whole
-            ∙ (and_parts _ _ (and_parts (held_back k.group k.held d j p.hops z s.x) _ (writable_on (c + 1) (get_or q.from b 0) (record { over = b; to = j } ∷ p.hops) on_further h)).1).0
-
-        pub moved_next : Ordered k.group → Sound w.n q → (zs : List V) → table k zs ≡ bump k.group (table k ys) j b (k.group.neg d) → Moved (c + 1) b zs
-        moved_next L f zs lowered =
-            let left : table k zs ≡ bump k.group (push k.group d j p.hops z s.x) j b (k.group.neg d) = lowered ∙ ap (λ y. bump k.group y j b (k.group.neg d)) whole in
-            record {
-              hops = record { over = b; to = j } ∷ p.hops;
-              on = on_further;
-              inside = subst (λ a. a < w.n) (sym eb) (f.bridges j (omega arith));
-              half = λ v h. ap (λ y. k.held (k.group.plus (y v b) d)) left ∙ (and_parts _ _ (and_parts (held_back k.group k.held d j p.hops z s.x) _ h).1).1;
-              moved = λ v. ap (λ y. bump k.group y v b d) left ∙ sym (push_back k.group L d v (record { over = b; to = j }) p.hops z s.x);
-            }
+      pub moved_next : Ordered k.group → (zs : List V) → table k zs ≡ bump k.group (table k ys) l.giver l.receiver (k.group.neg d) → Moved t l.receiver zs
+      moved_next L zs lowered =
+          let left : table k zs ≡ bump k.group (push k.group d l.giver p.hops z s.x) l.giver l.receiver (k.group.neg d) = lowered ∙ ap (λ y. bump k.group y l.giver l.receiver (k.group.neg d)) whole in
+          record {
+            hops = hop_of w q z l ∷ p.hops;
+            back = on_further;
+            inside = (link_inside w q z h t l p.hops g p.back f).1;
+            half = λ v h. ap (λ y. k.held (k.group.plus (y v l.receiver) d)) left ∙ (and_parts _ _ (and_parts (held_back k.group k.held d l.giver p.hops z s.x) _ h).1).1;
+            moved = λ v. ap (λ y. bump k.group y v l.receiver d) left ∙ sym (push_back k.group L d v (hop_of w q z l) p.hops z s.x);
+          }

@@ -1,7 +1,10 @@
 pub mod Answers
 pub mod Calls
 pub mod Finds
+pub mod Fitted
+pub mod Hops
 pub mod Model
+pub mod Same
 pub mod Step
 pub mod Tables
 pub mod Ways

@@ -1,5 +1,5 @@
 -- What the words and arrays of a search stand for.
-use Rattle.std.specs.Prelude.{◌≡◌, ℕ, ◌<◌, ◌≤◌, false, List, length, take, drop, Some, None, Option, slice_index}
+use Rattle.std.specs.Prelude.{◌≡◌, ℕ, ◌+◌, ◌<◌, ◌≤◌, List, length, take, drop, Some, None, Option, MatchOption, slice_index}
 use Rattle.words.specs.Words.{bit}
 use Rattle.flow.specs.Counts.{count}
 use Rattle.flow.specs.Search.{Ends, searching, found, Search}
@@ -16,15 +16,6 @@ abbrev pub tests : Words → Tests
 tests w =
     record { n = w.n; permitted = λ j i. bit (slice_index w.permitted j) i; starts = bit w.givers; wants = bit w.takers; above = λ k i. bit (slice_index w.holders i) k }
 
--- no place at n or above it
-pub record Fitted (w : Words) : Type 0 where
-  pub size : w.n ≤ 64
-  pub rows : length w.permitted ≡ 64
-  pub columns : length w.holders ≡ 64
-  pub givers : (k : ℕ) → w.n ≤ k → bit w.givers k ≡ false
-  pub permits : (j k : ℕ) → w.n ≤ k → bit (slice_index w.permitted j) k ≡ false
-  pub holds : (i k : ℕ) → w.n ≤ k → bit (slice_index w.holders i) k ≡ false
-
 -- the search that the words and arrays of a search stand for
 abbrev pub model : Ends → Seek → Search
 model e q =
@@ -40,6 +31,15 @@ pub record Sound (n : ℕ) (q : Seek) : Type 0 where
   pub members : (k : ℕ) → k < q.tail → slice_index q.queue k < n
   pub sources : (i : ℕ) → 0 < n → slice_index q.from i < n
   pub bridges : (k : ℕ) → 0 < n → slice_index q.via k < n
+
+-- what taking the giver at the front of a queue answers and leaves
+pub record Taken (q : Seek) (j : ℕ) (q' : Seek) : Type 0 where
+  pub ahead : q.head < q.tail
+  pub giver : j ≡ slice_index q.queue q.head
+  pub left : q' ≡ record { queue = q.queue; head = q.head + 1; tail = q.tail; reached = q.reached; seen = q.seen; from = q.from; via = q.via }
+
+abbrev pub Popped : Seek → Option ℕ → Seek → Type 0
+Popped q r q' = MatchOption r ((q.tail ≤ q.head) × (q' ≡ q)) (λ j. Taken q j q')
 
 -- how a search ended: at a receiver, or at none
 abbrev pub ending : Option ℕ → Ends

@@ -1,16 +1,14 @@
-ghost use Rattle.std.specs.Prelude.{◌≡◌, ℕ, ◌<◌, ◌≤◌, true, ◌&&◌, length, IfOk, Some, None, MatchResult, nat_lt, slice_index};
+ghost use Rattle.std.specs.Prelude.{◌≡◌, ℕ, ◌<◌, ◌≤◌, true, ◌&&◌, length, IfOk, Some, None, MatchResult, nat_lt, slice_index, if◌then◌else◌};
 ghost use Rattle.words.specs.Words.{bit};
-ghost use Rattle.planner.specs.Calls.{plan_refusal, Planned, BeyondIgnored};
+ghost use Rattle.planner.specs.Calls.{weights_fit, plan_refusal, Planned, BeyondIgnored};
 ghost use Rattle.planner.specs.Tables.{row, values};
 
 use crate::answer::Answer;
 use crate::checks::check;
-use crate::run::run;
 use crate::state::Words;
-use crate::tables::{put_get, put_give};
+use crate::tables::Tables;
 use amounts::Amount;
 use refusals::Refusal;
-use words as word;
 
 // Writes zero into each entry.
 fn clear<K: Amount>(amounts: &mut [K])
@@ -29,12 +27,33 @@ fn rules(n: usize, permissions: &[u64]) -> [u64; 64]
     ensures size { length result ≡ 64 }
     ensures rules { (j i : ℕ) → bit (slice_index result j) i ≡ (nat_lt j n && (nat_lt i n && bit (slice_index permissions.now j) i)) }
 {
-    let all = word::first(n);
+    let all = words::first(n);
     let mut r = [0; 64];
     for j in 0..n {
-        r[j] = word::both(all, permissions[j]);
+        r[j] = words::both(all, permissions[j]);
     }
     r
+}
+
+impl<K: Amount> Tables<'_, K> {
+    ghost use Rattle.planner.specs.Same.{Same};
+
+    // Writes each member's weight as what it has still to give and to get.
+    fn weigh(&mut self, weights: &[K])
+        requires room { self.old.words.n ≤ length weights.now }
+        requires weights { weights_fit K.Amount.kind self.old.words.n weights.now ≡ true }
+        requires gives { (i : ℕ) → row K.Amount.kind self.old.to_give.now i ≡ K.Amount.kind.group.nil }
+        requires gets { (i : ℕ) → row K.Amount.kind self.old.to_get.now i ≡ K.Amount.kind.group.nil }
+        ensures same { Same self.old self.new }
+        ensures transfers { self.new.transfers.now ≡ self.old.transfers.now }
+        ensures gives { (i : ℕ) → row K.Amount.kind self.new.to_give.now i ≡ (if nat_lt i self.old.words.n then row K.Amount.kind weights.now i else K.Amount.kind.group.nil) }
+        ensures gets { (i : ℕ) → row K.Amount.kind self.new.to_get.now i ≡ (if nat_lt i self.old.words.n then row K.Amount.kind weights.now i else K.Amount.kind.group.nil) }
+    {
+        for j in 0..self.words.n {
+            self.put_give(j, weights[j]);
+            self.put_get(j, weights[j]);
+        }
+    }
 }
 
 // Fills the tables as a run begins, and runs.
@@ -52,19 +71,21 @@ fn start<K: Amount>(
     clear(transfers);
     clear(to_give);
     clear(to_get);
-    let permitted = rules(n, permissions);
-    let mut w = Words {
+    let words = Words {
         n,
-        permitted,
+        permitted: rules(n, permissions),
         givers: 0,
         takers: 0,
         holders: [0; 64],
     };
-    for j in 0..n {
-        put_give(&mut w, transfers, to_give, to_get, j, weights[j]);
-        put_get(&mut w, transfers, to_give, to_get, j, weights[j]);
-    }
-    run(&mut w, transfers, to_give, to_get)
+    let mut tables = Tables {
+        words,
+        transfers,
+        to_give,
+        to_get,
+    };
+    tables.weigh(weights);
+    tables.run()
 }
 
 // Finds a fair plan of transfers among n members, or says why there is none.

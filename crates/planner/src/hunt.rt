@@ -1,124 +1,166 @@
-ghost use Rattle.std.specs.Prelude.{◌≡◌, ℕ, ◌+◌, ◌*◌, ◌<◌, ◌≤◌, Bool, true, false, not, ◌&&◌, length, IfSome, slice_index};
+ghost use Rattle.std.specs.Prelude.{◌≡◌, ℕ, ◌<◌, true, false, not, ◌&&◌, length, IfSome, slice_index};
 ghost use Rattle.words.specs.Words.{bit};
-ghost use Rattle.flow.specs.Search.{searching};
-ghost use Rattle.flow.specs.Search.{backs, outs, fresh as untouched, search_all};
+ghost use Rattle.flow.specs.Search.{Ends, searching, joined, noted, backs, outs, fresh as untouched};
 ghost use Rattle.planner.specs.Finds.{Finds, Straight};
-ghost use Rattle.planner.specs.Model.{model, tests, Sound, Fitted, ending, Within};
+ghost use Rattle.planner.specs.Model.{model, tests, Sound, Popped, ending, Within};
 
 use crate::state::{Found, Link, Seek, Words};
 use words::Places;
 
-// The giver at the queue's front.
-fn front(q: &Seek) -> usize
-    requires { q.now.head < 64 }
-    ensures { result ≡ slice_index q.now.queue q.now.head }
-{
-    q.queue[q.head] as usize
+// A search on its way among the words of a run.
+#[derive(Drop)]
+struct Search<'a> {
+    words: &'a Words,
+    seek: Seek,
+    ghost sound: { Sound words.now.n seek },
 }
 
-// Whether receiver i has still to get, so that a search ends there.
-fn wants(w: &Words, i: usize) -> bool
-    requires { i < 64 }
-    ensures { result ≡ bit w.now.takers i }
-{
-    words::has(w.takers, i)
-}
-
-// The givers not yet reached whose transfer to receiver i is above zero.
-fn backward(q: &Seek, w: &Words, i: usize) -> u64
-    requires { i < 64 }
-    ensures { (k : ℕ) → bit result k ≡ (bit (slice_index w.now.holders i) k && not (bit q.now.reached k)) }
-{
-    words::except(w.holders[i], q.reached)
-}
-
-// Reaches the givers back from receiver i, who join the queue's end in rising number.
-pub(crate) fn back(q: &mut Seek, w: &Words, i: usize)
-    requires room { i < w.now.n }
-    requires fitted { Fitted w.now }
-    requires sound { Sound w.now.n q.old }
-    ensures stands { model searching q.new ≡ backs (tests w.now) i w.now.n (model searching q.old) }
-    ensures sound { Sound w.now.n q.new }
-    ensures still { q.new.head ≡ q.old.head }
-{
-    for k in Places(backward(q, w, i)) {
-        q.reached = words::with(q.reached, k);
-        q.via[k] = i as u8;
-        q.queue[q.tail] = k as u8;
-        q.tail += 1;
-    }
-}
-
-// Takes the receivers permitted from giver j in rising number, and answers the first that has still to get.
-pub(crate) fn visit(q: &mut Seek, w: &Words, j: usize) -> Option<usize>
-    requires room { j < w.now.n }
-    requires fitted { Fitted w.now }
-    requires sound { Sound w.now.n q.old }
-    ensures stands { model (ending result) q.new ≡ outs (tests w.now) j w.now.n (model searching q.old) }
-    ensures sound { Sound w.now.n q.new }
-    ensures still { q.new.head ≡ q.old.head }
-    ensures member { Within w.now.n result }
-{
-    for i in Places(words::except(w.permitted[j], q.seen)) {
-        q.seen = words::with(q.seen, i);
-        q.from[i] = j as u8;
-        if wants(w, i) {
-            return Some(i);
+impl<'a> Search<'a> {
+    // A search that has reached the givers with something to give, queued in rising number.
+    fn start(words: &'a Words) -> Search<'a>
+        ensures stands { model searching result.seek ≡ untouched (tests words.now) }
+        ensures first { result.seek.head ≡ 0 }
+        ensures words { result.words.now ≡ words.now }
+    {
+        let mut queue = [0; 64];
+        let mut tail = 0;
+        for k in Places(words.givers) {
+            queue[tail] = k as u8;
+            tail += 1;
         }
-        back(q, w, i);
+        Search {
+            words,
+            seek: Seek {
+                queue,
+                head: 0,
+                tail,
+                reached: words.givers,
+                seen: 0,
+                from: [0; 64],
+                via: [0; 64],
+            },
+        }
     }
-    None
-}
 
-// A search that has reached the givers with something to give, queued in rising number.
-fn start(w: &Words) -> Seek
-    requires fitted { Fitted w.now }
-    ensures stands { model searching result ≡ untouched (tests w.now) }
-    ensures sound { Sound w.now.n result }
-    ensures first { result.head ≡ 0 }
-{
-    let mut queue = [0; 64];
-    let mut tail = 0;
-    for k in Places(w.givers) {
-        queue[tail] = k as u8;
-        tail += 1;
+    // The giver at the queue's front.
+    fn front(&self) -> usize
+        requires { self.now.seek.head < 64 }
+        ensures { result ≡ slice_index self.now.seek.queue self.now.seek.head }
+    {
+        self.seek.queue[self.seek.head] as usize
     }
-    Seek {
-        queue,
-        head: 0,
-        tail,
-        reached: w.givers,
-        seen: 0,
-        from: [0; 64],
-        via: [0; 64],
+
+    // The giver at the queue's front, who leaves it.
+    fn pop(&mut self) -> Option<usize>
+        ensures popped { Popped self.old.seek result self.new.seek }
+        ensures words { self.new.words.now ≡ self.old.words.now }
+    {
+        if self.seek.head == self.seek.tail {
+            return None;
+        }
+        let j = self.front();
+        self.seek.head += 1;
+        Some(j)
+    }
+
+    // Whether receiver i has still to get, so that a search ends there.
+    fn wants(&self, i: usize) -> bool
+        requires { i < 64 }
+        ensures { result ≡ bit self.now.words.now.takers i }
+    {
+        words::has(self.words.takers, i)
+    }
+
+    // The givers not yet reached whose transfer to receiver i is above zero.
+    fn backward(&self, i: usize) -> u64
+        requires { i < 64 }
+        ensures { (k : ℕ) → bit result k ≡ (bit (slice_index self.now.words.now.holders i) k && not (bit self.now.seek.reached k)) }
+    {
+        words::except(self.words.holders[i], self.seek.reached)
+    }
+
+    // Reaches giver k back from receiver i; k joins the queue's end.
+    fn join(&mut self, i: usize, k: usize)
+        requires receiver { i < self.old.words.now.n }
+        requires giver { k < self.old.words.now.n }
+        requires new { bit self.old.seek.reached k ≡ false }
+        ensures stands { (e : Ends) → model e self.new.seek ≡ joined i k (model e self.old.seek) }
+        ensures still { self.new.seek.head ≡ self.old.seek.head }
+        ensures words { self.new.words.now ≡ self.old.words.now }
+    {
+        self.seek.reached = words::with(self.seek.reached, k);
+        self.seek.via[k] = i as u8;
+        self.seek.queue[self.seek.tail] = k as u8;
+        self.seek.tail += 1;
+    }
+
+    // Reaches the givers back from receiver i in rising number.
+    fn back(&mut self, i: usize)
+        requires { i < self.old.words.now.n }
+        ensures stands { model searching self.new.seek ≡ backs (tests self.old.words.now) i self.old.words.now.n (model searching self.old.seek) }
+        ensures still { self.new.seek.head ≡ self.old.seek.head }
+        ensures words { self.new.words.now ≡ self.old.words.now }
+    {
+        for k in Places(self.backward(i)) {
+            self.join(i, k);
+        }
+    }
+
+    // Notes that receiver i was seen from giver j.
+    fn note(&mut self, j: usize, i: usize)
+        requires giver { j < self.old.words.now.n }
+        requires receiver { i < self.old.words.now.n }
+        ensures stands { (e : Ends) → model e self.new.seek ≡ noted j i (model e self.old.seek) }
+        ensures still { self.new.seek.head ≡ self.old.seek.head }
+        ensures words { self.new.words.now ≡ self.old.words.now }
+    {
+        self.seek.seen = words::with(self.seek.seen, i);
+        self.seek.from[i] = j as u8;
+    }
+
+    // Takes the receivers permitted from giver j in rising number, and answers the first that has still to get.
+    fn visit(&mut self, j: usize) -> Option<usize>
+        requires { j < self.old.words.now.n }
+        ensures stands { model (ending result) self.new.seek ≡ outs (tests self.old.words.now) j self.old.words.now.n (model searching self.old.seek) }
+        ensures still { self.new.seek.head ≡ self.old.seek.head }
+        ensures member { Within self.old.words.now.n result }
+        ensures words { self.new.words.now ≡ self.old.words.now }
+    {
+        for i in Places(words::except(self.words.permitted[j], self.seek.seen)) {
+            self.note(j, i);
+            if self.wants(i) {
+                return Some(i);
+            }
+            self.back(i);
+        }
+        None
     }
 }
 
 // Visits one giver after another from the queue's front, until a receiver is found or the queue is empty.
-fn search(w: &Words) -> Found
-    requires fitted { Fitted w.now }
+fn search_all(w: &Words) -> Found
     ensures finds { Finds w.now result.seek result.end }
     ensures sound { Sound w.now.n result.seek }
     ensures member { Within w.now.n result.end }
 {
-    let mut q = start(w);
-    while q.head < q.tail {
-        let j = front(&q);
-        q.head += 1;
-        if let Some(i) = visit(&mut q, w, j) {
+    let mut search = Search::start(w);
+    while let Some(j) = search.pop() {
+        if let Some(i) = search.visit(j) {
             return Found {
-                seek: q,
+                seek: search.seek,
                 end: Some(i),
             };
         }
     }
-    Found { seek: q, end: None }
+    Found {
+        seek: search.seek,
+        end: None,
+    }
 }
 
 // The receivers permitted from giver j that have still to get.
 fn wanting(w: &Words, j: usize) -> u64
-    requires room { j < 64 }
-    requires rows { length w.now.permitted ≡ 64 }
+    requires { j < 64 }
     ensures { (i : ℕ) → bit result i ≡ (bit (slice_index w.now.permitted j) i && bit w.now.takers i) }
 {
     words::both(w.permitted[j], w.takers)
@@ -134,7 +176,6 @@ fn lowest(members: u64) -> Option<usize>
 // The first giver with something to give, and the first receiver permitted from it that has still to get. Where
 // there are both, a search comes to this receiver in its first turn.
 fn at_once(w: &Words) -> Option<Link>
-    requires fitted { Fitted w.now }
     ensures { IfSome result (λ l. Straight w.now l.giver l.receiver) }
 {
     let giver = lowest(w.givers)?;
@@ -144,8 +185,7 @@ fn at_once(w: &Words) -> Option<Link>
 
 // The way of one link.
 fn straight(w: &Words, link: Link) -> Found
-    requires fitted { Fitted w.now }
-    requires link { Straight w.now link.giver link.receiver }
+    requires { Straight w.now link.giver link.receiver }
     ensures finds { Finds w.now result.seek result.end }
     ensures sound { Sound w.now.n result.seek }
     ensures member { Within w.now.n result.end }
@@ -168,13 +208,12 @@ fn straight(w: &Words, link: Link) -> Found
 
 // What the search of a step finds. It is searched for only where it is not found at once.
 pub(crate) fn find(w: &Words) -> Found
-    requires fitted { Fitted w.now }
     ensures finds { Finds w.now result.seek result.end }
     ensures sound { Sound w.now.n result.seek }
     ensures member { Within w.now.n result.end }
 {
     match at_once(w) {
         Some(link) => straight(w, link),
-        None => search(w),
+        None => search_all(w),
     }
 }

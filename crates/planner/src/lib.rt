@@ -4,6 +4,7 @@
 mod answer;
 mod call;
 mod checks;
+mod hops;
 mod hunt;
 mod run;
 mod state;

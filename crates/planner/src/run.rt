@@ -1,15 +1,15 @@
-ghost use Rattle.std.specs.Prelude.{◌≡◌, ℕ, ◌+◌, ◌<◌, true};
+ghost use Rattle.std.specs.Prelude.{◌≡◌, ℕ, ◌+◌, ◌<◌};
 ghost use Rattle.groups.specs.Sums.{Le};
 ghost use Rattle.flow.specs.Runs.{begin};
 ghost use Rattle.planner.specs.declared.answer.Answer.TheVariants.{Blocked};
 ghost use Rattle.planner.specs.Answers.{posed, Ran};
-ghost use Rattle.planner.specs.Step.{InStep};
-ghost use Rattle.planner.specs.Tables.{row, values, state_of};
+ghost use Rattle.planner.specs.Same.{Same, state};
+ghost use Rattle.planner.specs.Tables.{row};
 
 use crate::answer::Answer;
 use crate::hunt::find;
-use crate::state::{Seek, Words};
-use crate::walk::step;
+use crate::state::Seek;
+use crate::tables::Tables;
 use amounts::Amount;
 
 // The count of steps after one more.
@@ -30,31 +30,27 @@ fn blocked(steps: usize, q: &Seek) -> Answer
     }
 }
 
-// One step after another, until the search finds no way or a step is refused.
-pub(crate) fn run<K: Amount>(
-    w: &mut Words,
-    transfers: &mut [K],
-    to_give: &mut [K],
-    to_get: &mut [K],
-) -> Answer
-    requires kept { InStep K.Amount.kind w.old transfers.old to_give.old to_get.old }
-    requires begun { state_of K.Amount.kind transfers.old to_give.old to_get.old ≡ begin K.Amount.kind.group (posed K.Amount.kind w.old (row K.Amount.kind to_give.old)) }
-    requires least { (j : ℕ) → j < w.old.n → Le K.Amount.kind.group K.Amount.kind.group.nil (row K.Amount.kind to_give.old j) }
-    ensures ran { Ran K.Amount.kind (posed K.Amount.kind w.old (row K.Amount.kind to_give.old)) result transfers.new to_give.new to_get.new }
-    ensures values { (values K.Amount.kind transfers.new ≡ true) × (values K.Amount.kind to_give.new ≡ true) × (values K.Amount.kind to_get.new ≡ true) }
-{
-    let mut steps = 0;
-    'turn: loop {
-        let found = find(w);
-        let Some(z) = found.end else {
-            if w.givers == 0 {
-                return Answer::Plan { steps };
-            }
-            return blocked(steps, &found.seek);
-        };
-        if !step(&found.seek, w, transfers, to_give, to_get, z) {
-            return Answer::Outgrown { steps };
+impl<K: Amount> Tables<'_, K> {
+    // One step after another, until the search finds no way or a step is refused.
+    pub(crate) fn run(&mut self) -> Answer
+        requires begun { state self.old ≡ begin K.Amount.kind.group (posed K.Amount.kind self.old.words (row K.Amount.kind self.old.to_give.now)) }
+        requires least { (j : ℕ) → j < self.old.words.n → Le K.Amount.kind.group K.Amount.kind.group.nil (row K.Amount.kind self.old.to_give.now j) }
+        ensures same { Same self.old self.new }
+        ensures ran { Ran K.Amount.kind (posed K.Amount.kind self.old.words (row K.Amount.kind self.old.to_give.now)) result self.new.transfers.now self.new.to_give.now self.new.to_get.now }
+    {
+        let mut steps = 0;
+        'turn: loop {
+            let found = find(&self.words);
+            let Some(z) = found.end else {
+                if self.words.givers == 0 {
+                    return Answer::Plan { steps };
+                }
+                return blocked(steps, &found.seek);
+            };
+            let Ok(()) = self.step(&found.seek, z) else {
+                return Answer::Outgrown { steps };
+            };
+            steps = one_more(steps);
         }
-        steps = one_more(steps);
     }
 }

@@ -1,3 +1,5 @@
+ghost use Rattle.planner.specs.Fitted.{Fitted};
+
 // A set of members is a word of 64 bits, member k at place k.
 #[derive(Drop)]
 pub(crate) struct Words {
@@ -6,6 +8,7 @@ pub(crate) struct Words {
     pub(crate) givers: u64,
     pub(crate) takers: u64,
     pub(crate) holders: [u64; 64],
+    ghost fitted: { Fitted n permitted givers holders },
 }
 
 #[derive(Drop)]

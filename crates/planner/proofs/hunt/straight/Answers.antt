@@ -4,7 +4,7 @@ use Rattle.planner.proofs.hunt.straight.Goals as goal
 pub returns : goal.returns
 returns c =
     record {
-      finds = straight_leads c.args.w.now c.args.link.giver c.args.link.receiver c.requires.link c.requires.fitted;
-      sound = straight_sound c.args.w.now c.args.link.giver c.args.link.receiver c.requires.link c.requires.fitted;
-      member = c.requires.link.receiver;
+      finds = straight_leads c.args.w.now c.args.link.giver c.args.link.receiver c.requires;
+      sound = straight_sound c.args.w.now c.args.link.giver c.args.link.receiver c.requires;
+      member = c.requires.receiver;
     }

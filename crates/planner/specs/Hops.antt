@@ -1,0 +1,24 @@
+-- A way that is walked back, one link at a time.
+use Rattle.std.specs.Prelude.{◌≡◌, suc, true, false, ◌⊎◌, Option, MatchOption, slice_index}
+use Rattle.words.specs.Words.{bit}
+use Rattle.planner.specs.declared.hops.Hops.{Hops}
+use Rattle.planner.specs.declared.state.Link.{Link}
+
+-- the way starts from the giver where it stands, or it is as long as it may be
+pub record Ends (s t : Hops) : Type 0 where
+  pub starts : (s.turns ≡ 0) ⊎ (bit s.givers s.giver ≡ true)
+  pub giver : t.giver ≡ s.giver
+
+-- the way goes on: back from its giver through a receiver, and to the giver from whom that receiver was seen
+pub record GoesOn (s : Hops) (l : Link) (t : Hops) : Type 0 where
+  pub turns : s.turns ≡ suc t.turns
+  pub empty : bit s.givers s.giver ≡ false
+  pub giver : l.giver ≡ s.giver
+  pub receiver : l.receiver ≡ slice_index s.seek.now.via s.giver
+  pub further : t.giver ≡ slice_index s.seek.now.from l.receiver
+  pub seek : t.seek.now ≡ s.seek.now
+  pub givers : t.givers ≡ s.givers
+
+-- what walking one link gives
+abbrev pub Gives : Hops → Option Link → Hops → Type 0
+Gives s r t = MatchOption r (Ends s t) (λ l. GoesOn s l t)
