@@ -1,6 +1,7 @@
 -- The tables and words as a run begins.
-use Rattle.std.proofs.Common.{◌≡◌, ℕ, zero, suc, ◌+◌, ◌*◌, ◌<◌, ◌≤◌, Bool, true, false, cond, not, ◌&&◌, ltb, ◌⊎◌, List, [], ◌∷◌, length, get_or, set, replicate, sym, refl, ap, ◌∙◌, inl, inr, arith}
+use Rattle.std.proofs.Common.{◌≡◌, ℕ, zero, suc, ◌+◌, ◌*◌, ◌<◌, ◌≤◌, Bool, true, false, cond, not, ◌&&◌, ltb, ◌⊎◌, List, [], ◌∷◌, length, get_or, take, set, replicate, sym, refl, ap, ◌∙◌, inl, inr, arith}
 use mathlib.Core.Path.{fun_ext}
+use Rattle.std.proofs.lemmas.List.{length-take}
 use Rattle.std.proofs.lemmas.Bool.{cases_eq, cases_lt, lt-ltb, le-ltb, and_left, and_right, and_from, and_parts}
 use Rattle.words.specs.Words.{bit}
 use Rattle.words.proofs.Digits.{bit_zero}
@@ -15,7 +16,7 @@ use Rattle.planner.specs.Fitted.{Fitted}
 use Rattle.planner.specs.Step.{InStep}
 use Rattle.planner.specs.Tables.{row, table, values, state_of}
 use Rattle.planner.proofs.Checked.{first_at}
-use Rattle.planner.proofs.Entries.{row_here, row_else, row_read}
+use Rattle.planner.proofs.Entries.{row_here, row_else, row_past, row_read}
 
 pub zeros : (m j : ℕ) → get_or {A = ℕ} (replicate m 0) j 0 ≡ 0
 zeros zero j = refl
@@ -100,6 +101,37 @@ module _ {V : Type 0} (k : Kind V) where
           same : (i < j) ⊎ (j ≤ i) → ltb i j ≡ ltb i (j + 1)
           same (inl a) = lt-ltb i j a ∙ sym (lt-ltb i (j + 1) (omega arith))
           same (inr a) = le-ltb i j a ∙ sym (le-ltb i (j + 1) (omega arith))
+
+  -- once every weight stands in the row
+  pub weighed_all : (ws l : List V) (j : ℕ) → length ws ≤ j → Weighed j ws l → (i : ℕ) → row k l i ≡ row k ws i
+  weighed_all ws l j h w i = w i ∙ go (cases_lt i j)
+    where
+      go : (i < j) ⊎ (j ≤ i) → cond (ltb i j) (row k ws i) k.group.nil ≡ row k ws i
+      go (inl a) = ap (λ b. cond b (row k ws i) k.group.nil) (lt-ltb i j a)
+      go (inr a) = ap (λ b. cond b (row k ws i) k.group.nil) (le-ltb i j a) ∙ sym (row_past k ws i (omega arith))
+
+  -- the first n weights alone
+  row_first : (ws : List V) (n i : ℕ) → i < n → row k (take n ws) i ≡ row k ws i
+  unfolding row
+  row_first ws zero i h = absurd (omega arith)
+  row_first [] (suc n) i h = refl
+  row_first (v ∷ ws) (suc n) zero h = refl
+  row_first (v ∷ ws) (suc n) (suc i) h = row_first ws n i (omega arith)
+
+  pub row_take : (ws : List V) (n i : ℕ) → row k (take n ws) i ≡ cond (ltb i n) (row k ws i) k.group.nil
+  row_take ws n i = go (cases_lt i n)
+    where
+      go : (i < n) ⊎ (n ≤ i) → row k (take n ws) i ≡ cond (ltb i n) (row k ws i) k.group.nil
+      go (inl a) = row_first ws n i a ∙ sym (ap (λ b. cond b (row k ws i) k.group.nil) (lt-ltb i n a))
+      go (inr a) = row_past k (take n ws) i (omega (arith, length-take n ws)) ∙ sym (ap (λ b. cond b (row k ws i) k.group.nil) (le-ltb i n a))
+
+  pub values_take : (ws : List V) (n : ℕ) → weights_fit k n ws ≡ true → values k (take n ws) ≡ true
+  unfolding values all_first
+  values_take ws zero h = refl
+  values_take [] (suc n) h = refl
+  values_take (v ∷ ws) (suc n) h =
+      let q = and_parts (weight_fits k v) (all_first (weight_fits k) n ws) h in
+      and_from (k.value v) (values k (take n ws)) (and_parts (k.value v) (k.group.le k.group.nil (k.element v)) q.0).0 (values_take ws n q.1)
 
   module _ (n : ℕ) (ws : List V) (permissions : List ℕ) (w : Words) (xs gs rs : List V) (en : w.n ≡ n)
       (rules : (j i : ℕ) → bit (get_or w.permitted j 0) i ≡ (ltb j n && (ltb i n && bit (get_or permissions j 0) i)))

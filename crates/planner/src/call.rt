@@ -1,6 +1,6 @@
-ghost use Rattle.std.specs.Prelude.{◌≡◌, ℕ, ◌<◌, ◌≤◌, true, ◌&&◌, length, IfOk, Some, None, MatchResult, nat_lt, slice_index, if◌then◌else◌};
+ghost use Rattle.std.specs.Prelude.{◌≡◌, ℕ, ◌<◌, ◌≤◌, true, ◌&&◌, length, IfOk, Some, None, MatchResult, nat_lt, slice_index};
 ghost use Rattle.words.specs.Words.{bit};
-ghost use Rattle.planner.specs.Calls.{weights_fit, plan_refusal, Planned, BeyondIgnored};
+ghost use Rattle.planner.specs.Calls.{plan_refusal, Planned, BeyondIgnored};
 ghost use Rattle.planner.specs.Tables.{row, values};
 
 use crate::answer::Answer;
@@ -15,8 +15,8 @@ fn clear<K: Amount>(amounts: &mut [K])
     ensures values { values K.Amount.kind amounts.new ≡ true }
     ensures zeros { (i : ℕ) → row K.Amount.kind amounts.new i ≡ K.Amount.kind.group.nil }
 {
-    for i in 0..amounts.len() {
-        amounts[i] = K::zero();
+    for amount in amounts {
+        *amount = K::zero();
     }
 }
 
@@ -29,6 +29,7 @@ fn rules(n: usize, permissions: &[u64]) -> [u64; 64]
 {
     let all = words::first(n);
     let mut r = [0; 64];
+    // By index: `array::from_fn` gives no fact of a captured word, and `iter_mut` none of what is written.
     for j in 0..n {
         r[j] = words::both(all, permissions[j]);
     }
@@ -40,18 +41,18 @@ impl<K: Amount> Tables<'_, K> {
 
     // Writes each member's weight as what it has still to give and to get.
     fn weigh(&mut self, weights: &[K])
-        requires room { self.old.words.n ≤ length weights.now }
-        requires weights { weights_fit K.Amount.kind self.old.words.n weights.now ≡ true }
+        requires size { length weights.now ≡ self.old.words.n }
+        requires values { values K.Amount.kind weights.now ≡ true }
         requires gives { (i : ℕ) → row K.Amount.kind self.old.to_give.now i ≡ K.Amount.kind.group.nil }
         requires gets { (i : ℕ) → row K.Amount.kind self.old.to_get.now i ≡ K.Amount.kind.group.nil }
         ensures same { Same self.old self.new }
         ensures transfers { self.new.transfers.now ≡ self.old.transfers.now }
-        ensures gives { (i : ℕ) → row K.Amount.kind self.new.to_give.now i ≡ (if nat_lt i self.old.words.n then row K.Amount.kind weights.now i else K.Amount.kind.group.nil) }
-        ensures gets { (i : ℕ) → row K.Amount.kind self.new.to_get.now i ≡ (if nat_lt i self.old.words.n then row K.Amount.kind weights.now i else K.Amount.kind.group.nil) }
+        ensures gives { (i : ℕ) → row K.Amount.kind self.new.to_give.now i ≡ row K.Amount.kind weights.now i }
+        ensures gets { (i : ℕ) → row K.Amount.kind self.new.to_get.now i ≡ row K.Amount.kind weights.now i }
     {
-        for j in 0..self.words.n {
-            self.put_give(j, weights[j]);
-            self.put_get(j, weights[j]);
+        for (j, weight) in weights.iter().enumerate() {
+            self.put_give(j, *weight);
+            self.put_get(j, *weight);
         }
     }
 }
@@ -84,7 +85,7 @@ fn start<K: Amount>(
         to_give,
         to_get,
     };
-    tables.weigh(weights);
+    tables.weigh(&weights[..n]);
     tables.run()
 }
 

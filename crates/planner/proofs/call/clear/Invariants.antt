@@ -3,7 +3,7 @@ use Rattle.planner.specs.Calls.{all_first}
 use Rattle.planner.specs.Tables.{row}
 use Rattle.planner.proofs.call.clear.Given as goal
 
-abbrev pub invariant-loop-i : goal.invariant-loop-i
-invariant-loop-i g l =
-    (all_first g.K.Amount.kind.value l.i l.amounts ≡ true)
-    × ((a : ℕ) → a < l.i → row g.K.Amount.kind l.amounts a ≡ g.K.Amount.kind.group.nil)
+abbrev pub invariant-loop-amount : goal.invariant-loop-amount
+invariant-loop-amount g l =
+    (all_first g.K.Amount.kind.value l.amount-index l.amount-items ≡ true)
+    × ((a : ℕ) → a < l.amount-index → row g.K.Amount.kind l.amount-items a ≡ g.K.Amount.kind.group.nil)
