@@ -1,113 +1,58 @@
--- The laws of a word's places.
-use Rattle.std.proofs.Common.{◌≡◌, ℕ, zero, suc, ◌-◌, ◌*◌, ◌/◌, ◌%◌, ◌^◌, ◌<◌, ◌≤◌, min, max, Bool, true, false, cond, not, ◌&&◌, ◌||◌, eqb, ltb, ◌⊎◌, sym, refl, ap, ◌∙◌, subst, ap₂, inl, inr, pow-suc, arith, pow_pos, shr-shr}
-use lib.Bits.{bit_and, bit_or, and_step, or_step, and_self, and_le_r, and_mask}
-use lib.Pow.{pow-lt}
+-- The laws of a word's places, by those of std on one bit of a number.
+use Rattle.std.proofs.Common.{◌≡◌, ℕ, zero, suc, ◌-◌, ◌*◌, ◌/◌, ◌%◌, ◌^◌, ◌<◌, ◌≤◌, min, true, false, cond, not, ◌&&◌, eqb, ltb, ◌⊎◌, sym, refl, ap, ◌∙◌, subst, ap₂, inl, inr, true≢false, pow-suc, pow_pos, w64, arith, shr-shr}
+use lib.Bits.{bit_and, bit_or, and_step, and_self, and_le_r}
 use Rattle.std.proofs.lemmas.Nat.{one_shl}
+use Rattle.std.specs.Int.{bit_at}
+use Rattle.std.proofs.lemmas.Nat.Bits.{bit_at_and, bit_at-zero, shr_and_one, bit_at_ones, bit_at_ones_above, bit_at_not, bit_at_above, bit_at-lt, bit_at_set_same, bit_at_set_other, bit_at_clear_same, bit_at_clear_other, same_from_bits_below}
 use lib.Count.{count_trailing_zeros, under}
-use Rattle.std.proofs.lemmas.Bool.{eq-eqb, ne_eqb, cases_eq, cases_lt, cond-false, lt-ltb, le-ltb}
+use Rattle.std.proofs.lemmas.Bool.{eq-eqb, ne_eqb, cases_eq, cases_lt, cond-true, cond-false, lt-ltb, le-ltb}
 use Rattle.words.specs.Words.{bit, Lowest}
 
-digit : (w : ℕ) → (w % 2 ≡ 0) ⊎ (w % 2 ≡ 1)
-digit w = go (w % 2) refl
-  where
-    go : (d : ℕ) → w % 2 ≡ d → (d ≡ 0) ⊎ (d ≡ 1)
-    go zero e = inl refl
-    go (suc zero) e = inr refl
-    go (suc (suc d)) e = absurd (omega arith)
+-- a place is in the set where the bit there is 1
+pub bit_shift : (w k : ℕ) → bit w k ≡ eqb (bit_at w k) 1
+unfolding bit
+bit_shift w zero = ap (λ v. eqb (v % 2) 1) (omega arith)
+bit_shift w (suc k) = bit_shift (w / 2) k ∙ ap (λ v. eqb (v % 2) 1) (shr-shr w 1 k ∙ ap (λ m. w / 2 ^ m) (omega arith))
+
+-- what is known of the bit is known of the place
+at_one : (w k : ℕ) → bit_at w k ≡ 1 → bit w k ≡ true
+at_one w k e = bit_shift w k ∙ ap (λ d. eqb d 1) e
+
+at_zero : (w k : ℕ) → bit_at w k ≡ 0 → bit w k ≡ false
+at_zero w k e = bit_shift w k ∙ ap (λ d. eqb d 1) e
+
+same_bit : (v w k : ℕ) → bit_at v k ≡ bit_at w k → bit v k ≡ bit w k
+same_bit v w k e = bit_shift v k ∙ ap (λ d. eqb d 1) e ∙ sym (bit_shift w k)
 
 pub bit_zero : (k : ℕ) → bit 0 k ≡ false
-unfolding bit
-bit_zero zero = refl
-bit_zero (suc k) = bit_zero k
+bit_zero k = at_zero 0 k (bit_at-zero k)
 
-and_low : (a b : ℕ) → (a % 2 ≡ 0) ⊎ (a % 2 ≡ 1) → (b % 2 ≡ 0) ⊎ (b % 2 ≡ 1) → eqb (min (a % 2) (b % 2)) 1 ≡ (eqb (a % 2) 1 && eqb (b % 2) 1)
-and_low a b (inl p) (inl q) = ap₂ (λ x y. eqb (min x y) 1) p q ∙ sym (ap₂ (λ x y. eqb x 1 && eqb y 1) p q)
-and_low a b (inl p) (inr q) = ap₂ (λ x y. eqb (min x y) 1) p q ∙ sym (ap₂ (λ x y. eqb x 1 && eqb y 1) p q)
-and_low a b (inr p) (inl q) = ap₂ (λ x y. eqb (min x y) 1) p q ∙ sym (ap₂ (λ x y. eqb x 1 && eqb y 1) p q)
-and_low a b (inr p) (inr q) = ap₂ (λ x y. eqb (min x y) 1) p q ∙ sym (ap₂ (λ x y. eqb x 1 && eqb y 1) p q)
-
-or_low : (a b : ℕ) → (a % 2 ≡ 0) ⊎ (a % 2 ≡ 1) → (b % 2 ≡ 0) ⊎ (b % 2 ≡ 1) → eqb (max (a % 2) (b % 2)) 1 ≡ (eqb (a % 2) 1 || eqb (b % 2) 1)
-or_low a b (inl p) (inl q) = ap₂ (λ x y. eqb (max x y) 1) p q ∙ sym (ap₂ (λ x y. eqb x 1 || eqb y 1) p q)
-or_low a b (inl p) (inr q) = ap₂ (λ x y. eqb (max x y) 1) p q ∙ sym (ap₂ (λ x y. eqb x 1 || eqb y 1) p q)
-or_low a b (inr p) (inl q) = ap₂ (λ x y. eqb (max x y) 1) p q ∙ sym (ap₂ (λ x y. eqb x 1 || eqb y 1) p q)
-or_low a b (inr p) (inr q) = ap₂ (λ x y. eqb (max x y) 1) p q ∙ sym (ap₂ (λ x y. eqb x 1 || eqb y 1) p q)
-
-and_half : (a b : ℕ) → bit_and a b / 2 ≡ bit_and (a / 2) (b / 2)
-and_half a b = omega (arith, and_step a b)
-
-and_digit : (a b : ℕ) → bit_and a b % 2 ≡ min (a % 2) (b % 2)
-and_digit a b = omega (arith, and_step a b)
-
-or_half : (a b : ℕ) → bit_or a b / 2 ≡ bit_or (a / 2) (b / 2)
-or_half a b = omega (arith, or_step a b)
-
-or_digit : (a b : ℕ) → bit_or a b % 2 ≡ max (a % 2) (b % 2)
-or_digit a b = omega (arith, or_step a b)
+digit : (d : ℕ) → d < 2 → (d ≡ 0) ⊎ (d ≡ 1)
+digit zero l = inl refl
+digit (suc zero) l = inr refl
+digit (suc (suc d)) l = absurd (omega arith)
 
 pub bit_of_and : (a b k : ℕ) → bit (bit_and a b) k ≡ (bit a k && bit b k)
-unfolding bit
-bit_of_and a b zero = ap (λ d. eqb d 1) (and_digit a b) ∙ and_low a b (digit a) (digit b)
-bit_of_and a b (suc k) = ap (λ w. bit w k) (and_half a b) ∙ bit_of_and (a / 2) (b / 2) k
-
-pub bit_of_or : (a b k : ℕ) → bit (bit_or a b) k ≡ (bit a k || bit b k)
-unfolding bit
-bit_of_or a b zero = ap (λ d. eqb d 1) (or_digit a b) ∙ or_low a b (digit a) (digit b)
-bit_of_or a b (suc k) = ap (λ w. bit w k) (or_half a b) ∙ bit_of_or (a / 2) (b / 2) k
+bit_of_and a b k =
+    bit_shift (bit_and a b) k ∙ ap (λ d. eqb d 1) (bit_at_and a b k) ∙ go (bit_at a k) (bit_at b k) (digit (bit_at a k) (bit_at-lt a k)) (digit (bit_at b k) (bit_at-lt b k))
+    ∙ sym (ap₂ (λ x y. x && y) (bit_shift a k) (bit_shift b k))
+  where
+    go : (x y : ℕ) → (x ≡ 0) ⊎ (x ≡ 1) → (y ≡ 0) ⊎ (y ≡ 1) → eqb (min x y) 1 ≡ (eqb x 1 && eqb y 1)
+    go x y (inl p) (inl q) = rw (p, q) refl
+    go x y (inl p) (inr q) = rw (p, q) refl
+    go x y (inr p) (inl q) = rw (p, q) refl
+    go x y (inr p) (inr q) = rw (p, q) refl
 
 -- no place at or above the length of the word
 pub bit_high : (m w k : ℕ) → w < 2 ^ m → m ≤ k → bit w k ≡ false
-unfolding bit
-bit_high zero w k h l = ap (λ v. bit v k) (omega arith) ∙ bit_zero k
-bit_high (suc m) w zero h l = absurd (omega arith)
-bit_high (suc m) w (suc k) h l = bit_high m (w / 2) k (omega (arith, pow-suc 2 m)) (omega arith)
+bit_high m w k h l = at_zero w k (bit_at_above w m k h l)
 
-pub bit_not : (m w k : ℕ) → w < 2 ^ m → k < m → bit (2 ^ m - 1 - w) k ≡ not (bit w k)
-unfolding bit
-bit_not zero w k h l = absurd (omega arith)
-bit_not (suc m) w zero h l = go (digit w)
+bit_first : (n j : ℕ) → bit (2 ^ n - 1) j ≡ ltb j n
+bit_first n j = go (cases_lt j n)
   where
-    go : (w % 2 ≡ 0) ⊎ (w % 2 ≡ 1) → eqb ((2 ^ suc m - 1 - w) % 2) 1 ≡ not (eqb (w % 2) 1)
-    go (inl e) =
-        let o : (2 ^ suc m - 1 - w) % 2 ≡ 1 = omega (arith, pow-suc 2 m) in
-        ap (λ d. eqb d 1) o ∙ sym (ap (λ d. not (eqb d 1)) e)
-    go (inr e) =
-        let o : (2 ^ suc m - 1 - w) % 2 ≡ 0 = omega (arith, pow-suc 2 m) in
-        ap (λ d. eqb d 1) o ∙ sym (ap (λ d. not (eqb d 1)) e)
-bit_not (suc m) w (suc k) h l =
-    let o : (2 ^ suc m - 1 - w) / 2 ≡ 2 ^ m - 1 - w / 2 = omega (arith, pow-suc 2 m) in
-    ap (λ v. bit v k) o ∙ bit_not m (w / 2) k (omega (arith, pow-suc 2 m)) (omega arith)
-
-eqb_suc : (j k : ℕ) → eqb j k ≡ eqb (suc j) (suc k)
-eqb_suc j k = go (cases_eq j k)
-  where
-    go : (j ≡ k) ⊎ (j ≡ k → ⊥) → eqb j k ≡ eqb (suc j) (suc k)
-    go (inl e) = eq-eqb j k e ∙ sym (eq-eqb (suc j) (suc k) (ap suc e))
-    go (inr e) = ne_eqb j k e ∙ sym (ne_eqb (suc j) (suc k) (λ q. e (omega arith)))
-
-pub bit_pow : (k j : ℕ) → bit (2 ^ k) j ≡ eqb j k
-unfolding bit
-bit_pow zero zero = refl
-bit_pow zero (suc j) = bit_zero j ∙ sym (ne_eqb (suc j) 0 (λ e. omega arith))
-bit_pow (suc k) zero =
-    let o : 2 ^ suc k % 2 ≡ 0 = omega (arith, pow-suc 2 k) in
-    ap (λ d. eqb d 1) o ∙ sym (ne_eqb 0 (suc k) (λ e. omega arith))
-bit_pow (suc k) (suc j) =
-    let o : 2 ^ suc k / 2 ≡ 2 ^ k = omega (arith, pow-suc 2 k) in
-    ap (λ w. bit w j) o ∙ bit_pow k j ∙ eqb_suc j k
-
-pub bit_first : (n j : ℕ) → bit (2 ^ n - 1) j ≡ ltb j n
-unfolding bit
-bit_first zero j = bit_zero j ∙ sym (le-ltb j 0 (omega arith))
-bit_first (suc n) zero =
-    let o : (2 ^ suc n - 1) % 2 ≡ 1 = omega (arith, pow-suc 2 n, pow_pos n) in
-    ap (λ d. eqb d 1) o ∙ sym (lt-ltb 0 (suc n) (omega arith))
-bit_first (suc n) (suc j) =
-    let o : (2 ^ suc n - 1) / 2 ≡ 2 ^ n - 1 = omega (arith, pow-suc 2 n, pow_pos n) in
-    ap (λ w. bit w j) o ∙ bit_first n j ∙ same (cases_lt j n)
-  where
-    same : (j < n) ⊎ (n ≤ j) → ltb j n ≡ ltb (suc j) (suc n)
-    same (inl e) = lt-ltb j n e ∙ sym (lt-ltb (suc j) (suc n) (omega arith))
-    same (inr e) = le-ltb j n e ∙ sym (le-ltb (suc j) (suc n) (omega arith))
+    go : (j < n) ⊎ (n ≤ j) → bit (2 ^ n - 1) j ≡ ltb j n
+    go (inl e) = at_one (2 ^ n - 1) j (bit_at_ones n j e) ∙ sym (lt-ltb j n e)
+    go (inr e) = at_zero (2 ^ n - 1) j (bit_at_ones_above n j e) ∙ sym (le-ltb j n e)
 
 -- the places below 64, and those below a number under 64
 pub all_places : (n j : ℕ) → n ≡ 64 → bit (2 ^ 64 - 1) j ≡ ltb j n
@@ -119,26 +64,31 @@ first_places n j h = ap (λ v. bit (v - 1) j) (one_shl n 64 h) ∙ bit_first n j
 pub first_number : (n : ℕ) → n < 64 → 1 * 2 ^ n % 2 ^ 64 - 1 ≡ 2 ^ n - 1
 first_number n h = ap (λ v. v - 1) (one_shl n 64 h)
 
-pub bit_shift : (w k : ℕ) → bit w k ≡ eqb (w / 2 ^ k % 2) 1
-unfolding bit
-bit_shift w zero = ap (λ v. eqb (v % 2) 1) (omega arith)
-bit_shift w (suc k) = bit_shift (w / 2) k ∙ ap (λ v. eqb (v % 2) 1) (shr-shr w 1 k ∙ ap (λ m. w / 2 ^ m) (omega arith))
-
--- a word with no place is zero
 -- the digit at place k, shifted to the lowest
 pub digit_at : (w k : ℕ) → eqb (bit_and (w / 2 ^ k) 1) 1 ≡ bit w k
-digit_at w k = ap (λ v. eqb v 1) (and_mask (w / 2 ^ k) 1) ∙ sym (bit_shift w k)
+digit_at w k = ap (λ v. eqb v 1) (shr_and_one w k) ∙ sym (bit_shift w k)
 
+-- a word with no place is zero
 pub bit_none : (m w : ℕ) → w < 2 ^ m → ((k : ℕ) → k < m → bit w k ≡ false) → w ≡ 0
-unfolding bit
-bit_none zero w h f = omega arith
-bit_none (suc m) w h f =
-    let e : w / 2 ≡ 0 = bit_none m (w / 2) (omega (arith, pow-suc 2 m)) (λ k l. f (suc k) (omega arith)) in
-    go e (digit w)
+bit_none m w h f = same_from_bits_below m w 0 h (omega (arith, pow_pos m)) (λ k l. none k (digit (bit_at w k) (bit_at-lt w k)) (f k l) ∙ sym (bit_at-zero k))
   where
-    go : w / 2 ≡ 0 → (w % 2 ≡ 0) ⊎ (w % 2 ≡ 1) → w ≡ 0
-    go e (inl d) = omega arith
-    go e (inr d) = absurd (mathlib.Core.Bool.true≢false (sym (ap (λ x. eqb x 1) d) ∙ f zero (omega arith)))
+    none : (k : ℕ) → (bit_at w k ≡ 0) ⊎ (bit_at w k ≡ 1) → bit w k ≡ false → bit_at w k ≡ 0
+    none k (inl z) e = z
+    none k (inr o) e = absurd (true≢false (sym (at_one w k o) ∙ e))
+
+eqb_suc : (j k : ℕ) → eqb j k ≡ eqb (suc j) (suc k)
+eqb_suc j k = go (cases_eq j k)
+  where
+    go : (j ≡ k) ⊎ (j ≡ k → ⊥) → eqb j k ≡ eqb (suc j) (suc k)
+    go (inl e) = eq-eqb j k e ∙ sym (eq-eqb (suc j) (suc k) (ap suc e))
+    go (inr e) = ne_eqb j k e ∙ sym (ne_eqb (suc j) (suc k) (λ q. e (omega arith)))
+
+-- halves and last digits
+and_half : (a b : ℕ) → bit_and a b / 2 ≡ bit_and (a / 2) (b / 2)
+and_half a b = omega (arith, and_step a b)
+
+and_digit : (a b : ℕ) → bit_and a b % 2 ≡ min (a % 2) (b % 2)
+and_digit a b = omega (arith, and_step a b)
 
 -- the lowest place, and the word without it
 record Low (w k v : ℕ) : Type 0 where
@@ -149,7 +99,7 @@ record Low (w k v : ℕ) : Type 0 where
 lowest : (m w : ℕ) → 0 < w → w < 2 ^ m → (count_trailing_zeros m w < m) × Low w (count_trailing_zeros m w) (bit_and w (w - 1))
 unfolding bit count_trailing_zeros
 lowest zero w p h = absurd (omega arith)
-lowest (suc m) w p h = go (λ q. lowest m (w / 2) q (omega (arith, pow-suc 2 m))) (digit w)
+lowest (suc m) w p h = go (λ q. lowest m (w / 2) q (omega (arith, pow-suc 2 m))) (digit (w % 2) (omega arith))
   where
     go : (0 < w / 2 → (count_trailing_zeros m (w / 2) < m) × Low (w / 2) (count_trailing_zeros m (w / 2)) (bit_and (w / 2) (w / 2 - 1)))
         → (w % 2 ≡ 0) ⊎ (w % 2 ≡ 1)
@@ -196,28 +146,34 @@ lowest_place w p h =
 pub less_word : (a b j : ℕ) → a < 2 ^ 64 → b < 2 ^ 64 → bit (bit_and a (2 ^ 64 - 1 - b)) j ≡ (bit a j && not (bit b j))
 less_word a b j h l = bit_of_and a (2 ^ 64 - 1 - b) j ∙ go (cases_lt j 64)
   where
+    flipped : (bit_at b j ≡ 0) ⊎ (bit_at b j ≡ 1) → j < 64 → bit (2 ^ 64 - 1 - b) j ≡ not (bit b j)
+    flipped (inl z) e = at_one (2 ^ 64 - 1 - b) j (bit_at_not w64 b j l e ∙ ap (λ d. 1 - d) z) ∙ sym (ap not (at_zero b j z))
+    flipped (inr o) e = at_zero (2 ^ 64 - 1 - b) j (bit_at_not w64 b j l e ∙ ap (λ d. 1 - d) o) ∙ sym (ap not (at_one b j o))
+
     go : (j < 64) ⊎ (64 ≤ j) → (bit a j && bit (2 ^ 64 - 1 - b) j) ≡ (bit a j && not (bit b j))
-    go (inl e) = ap (λ x. bit a j && x) (bit_not 64 b j l e)
+    go (inl e) = ap (λ x. bit a j && x) (flipped (digit (bit_at b j) (bit_at-lt b j)) e)
     go (inr e) = ap (λ x. x && bit (2 ^ 64 - 1 - b) j) (bit_high 64 a j h e) ∙ sym (ap (λ x. x && not (bit b j)) (bit_high 64 a j h e))
 
-shifted : (k : ℕ) → k < 64 → 1 * 2 ^ k % 2 ^ 64 ≡ 2 ^ k
-shifted k h = one_shl k 64 h
-
 pub with_word : (w k j : ℕ) → k < 64 → bit (bit_or w (1 * 2 ^ k % 2 ^ 64)) j ≡ cond (eqb j k) true (bit w j)
-with_word w k j h = ap (λ v. bit (bit_or w v) j) (shifted k h) ∙ bit_of_or w (2 ^ k) j ∙ ap (λ x. bit w j || x) (bit_pow k j) ∙ go (bit w j) (eqb j k)
+with_word w k j h = go (cases_eq j k)
   where
-    go : (x y : Bool) → (x || y) ≡ cond y true x
-    go true true = refl
-    go true false = refl
-    go false true = refl
-    go false false = refl
+    v : ℕ
+    v = bit_or w (1 * 2 ^ k % 2 ^ 64)
+
+    go : (j ≡ k) ⊎ (j ≡ k → ⊥) → bit v j ≡ cond (eqb j k) true (bit w j)
+    go (inl e) = ap (bit v) e ∙ at_one v k (bit_at_set_same w64 w k h) ∙ sym (cond-true (eqb j k) true (bit w j) (eq-eqb j k e))
+    go (inr e) = same_bit v w j (bit_at_set_other w64 w k h j e) ∙ sym (cond-false (eqb j k) true (bit w j) (ne_eqb j k e))
 
 pub without_word : (w k j : ℕ) → w < 2 ^ 64 → k < 64 → bit (bit_and w (2 ^ 64 - 1 - 1 * 2 ^ k % 2 ^ 64)) j ≡ cond (eqb j k) false (bit w j)
-without_word w k j l h =
-    ap (λ v. bit (bit_and w (2 ^ 64 - 1 - v)) j) (shifted k h) ∙ less_word w (2 ^ k) j l (pow-lt h) ∙ ap (λ x. bit w j && not x) (bit_pow k j) ∙ go (bit w j) (eqb j k)
+without_word w k j l h = go (cases_eq j k)
   where
-    go : (x y : Bool) → (x && not y) ≡ cond y false x
-    go true true = refl
-    go true false = refl
-    go false true = refl
-    go false false = refl
+    v : ℕ
+    v = bit_and w (2 ^ 64 - 1 - 1 * 2 ^ k % 2 ^ 64)
+
+    high : (j < 64) ⊎ (64 ≤ j) → (j ≡ k → ⊥) → bit v j ≡ bit w j
+    high (inl a) e = same_bit v w j (bit_at_clear_other w64 w k h j a e)
+    high (inr a) e = bit_of_and w (2 ^ 64 - 1 - 1 * 2 ^ k % 2 ^ 64) j ∙ ap (λ x. x && bit (2 ^ 64 - 1 - 1 * 2 ^ k % 2 ^ 64) j) (bit_high 64 w j l a) ∙ sym (bit_high 64 w j l a)
+
+    go : (j ≡ k) ⊎ (j ≡ k → ⊥) → bit v j ≡ cond (eqb j k) false (bit w j)
+    go (inl e) = ap (bit v) e ∙ at_zero v k (bit_at_clear_same w64 w k h) ∙ sym (cond-true (eqb j k) false (bit w j) (eq-eqb j k e))
+    go (inr e) = high (cases_lt j 64) e ∙ sym (cond-false (eqb j k) false (bit w j) (ne_eqb j k e))
