@@ -4,11 +4,17 @@ use mathlib.Core.Path.{fun_ext}
 use Rattle.std.proofs.lemmas.Bool.{cases_eq, eq-eqb, ne_eqb, and_from, and_left, and_right, cond-true, cond-false}
 use Rattle.groups.specs.Sums.{minus}
 use Rattle.flow.specs.Routes.{bump, taken}
-use Rattle.amounts.specs.Kind.{Kind, Stands, StandsFor, Sum, Difference, sound}
+use Rattle.amounts.specs.Kind.{Kind, Stands, StandsFor, sound}
+use Rattle.planner.specs.declared.change.Change.{Change}
+use Rattle.planner.specs.Changes.{changed}
 use Rattle.planner.specs.Tables.{row, table}
 use Rattle.planner.proofs.Entries.{row_here, row_else, table_here, table_else}
 
 module _ {V : Type 0} (k : Kind V) where
+  -- where both numbers are values, the test is that the element is held
+  pub stands_held : (a b : V) (e : k.group.Element) (r : Option V) → k.value a ≡ true → k.value b ≡ true → Stands k (sound k a b e) e r → Stands k (k.held e) e r
+  stands_held a b e r p q h = subst (λ t. Stands k t e r) (ap₂ (λ u v. (u && v) && k.held e) p q) h
+
   given : (test : Bool) (e : k.group.Element) (r : Option V) → test ≡ true → Stands k test e r → is_some r ≡ true
   given test e None t p = absurd (true≢false (sym t ∙ p))
   given test e (Some v) t p = refl
@@ -16,33 +22,21 @@ module _ {V : Type 0} (k : Kind V) where
   taken_out : (test : Bool) (e : k.group.Element) (r : Option V) (v : V) → r ≡ Some v → Stands k test e r → StandsFor k v e
   taken_out test e r v q p = (subst (Stands k test e) q p).1
 
-  sounds : (a b : V) (e f : k.group.Element) → k.value a ≡ true → k.value b ≡ true → e ≡ f → k.held f ≡ true → sound k a b e ≡ true
-  sounds a b e f p q same h = and_from (k.value a && k.value b) (k.held e) (and_from (k.value a) (k.value b) p q) (ap k.held same ∙ h)
+  -- x stands for e, and a change is made of it
+  module _ (x : V) (c : Change V) (e : k.group.Element) (has : StandsFor k x e) (r : Option V)
+      (made : Stands k (k.held (changed k c (k.element x))) (changed k c (k.element x)) r) where
+    pub change_given : k.held (changed k c e) ≡ true → is_some r ≡ true
+    change_given h = given _ _ r (ap (λ y. k.held (changed k c y)) has.1 ∙ h) made
 
-  -- x stands for e, and what d makes of e is held
-  module _ (x d : V) (e : k.group.Element) (has : StandsFor k x e) (good : k.value d ≡ true) where
-    pub sum_given : (r : Option V) → Sum k x d r → k.held (k.group.plus e (k.element d)) ≡ true → is_some r ≡ true
-    sum_given r p h =
-        given _ _ r (sounds x d (k.group.plus (k.element x) (k.element d)) (k.group.plus e (k.element d)) has.0 good (ap (λ y. k.group.plus y (k.element d)) has.1) h) p
+    pub change_stands : (v : V) → r ≡ Some v → StandsFor k v (changed k c e)
+    change_stands v q =
+        let t = taken_out _ _ r v q made in
+        (t.0, t.1 ∙ ap (changed k c) has.1)
 
-    pub difference_given : (r : Option V) → Difference k x d r → k.held (minus k.group e (k.element d)) ≡ true → is_some r ≡ true
-    difference_given r p h =
-        given _ _ r (sounds x d (minus k.group (k.element x) (k.element d)) (minus k.group e (k.element d)) has.0 good (ap (λ y. minus k.group y (k.element d)) has.1) h) p
-
-    pub sum_stands : (r : Option V) (v : V) → r ≡ Some v → Sum k x d r → StandsFor k v (k.group.plus e (k.element d))
-    sum_stands r v q p =
-        let t = taken_out _ _ r v q p in
-        (t.0, t.1 ∙ ap (λ y. k.group.plus y (k.element d)) has.1)
-
-    pub difference_stands : (r : Option V) (v : V) → r ≡ Some v → Difference k x d r → StandsFor k v (minus k.group e (k.element d))
-    difference_stands r v q p =
-        let t = taken_out _ _ r v q p in
-        (t.0, t.1 ∙ ap (λ y. minus k.group y (k.element d)) has.1)
-
-  pub table_bumped : (l : List V) (j i : ℕ) (y : V) (d : k.group.Element) → length l ≡ 4096 → j < 64 → i < 64
-      → k.element y ≡ k.group.plus (table k l j i) d → table k (set l (64 * j + i) y) ≡ bump k.group (table k l) j i d
+  pub table_bumped : (l l' : List V) (j i : ℕ) (y : V) (d : k.group.Element) → l' ≡ set l (64 * j + i) y → length l ≡ 4096 → j < 64 → i < 64
+      → k.element y ≡ k.group.plus (table k l j i) d → table k l' ≡ bump k.group (table k l) j i d
   unfolding bump
-  table_bumped l j i y d e a b h = fun_ext (λ m. fun_ext (λ n. go m n (cases_eq m j) (cases_eq n i)))
+  table_bumped l l' j i y d w e a b h = ap (table k) w ∙ fun_ext (λ m. fun_ext (λ n. go m n (cases_eq m j) (cases_eq n i)))
     where
       go : (m n : ℕ) → (m ≡ j) ⊎ (m ≡ j → ⊥) → (n ≡ i) ⊎ (n ≡ i → ⊥)
           → table k (set l (64 * j + i) y) m n ≡ cond (eqb m j && eqb n i) (k.group.plus (table k l m n) d) (table k l m n)
@@ -57,10 +51,10 @@ module _ {V : Type 0} (k : Kind V) where
           table_else k l j i y m n b (λ t. p t.0)
           ∙ sym (cond-false (eqb m j && eqb n i) (k.group.plus (table k l m n) d) (table k l m n) (and_left (eqb m j) (eqb n i) (ne_eqb m j p)))
 
-  pub row_lowered : (l : List V) (j : ℕ) (y : V) (d : k.group.Element) → j < length l
-      → k.element y ≡ minus k.group (row k l j) d → row k (set l j y) ≡ taken k.group (row k l) j d
+  pub row_lowered : (l l' : List V) (j : ℕ) (y : V) (d : k.group.Element) → l' ≡ set l j y → j < length l
+      → k.element y ≡ minus k.group (row k l j) d → row k l' ≡ taken k.group (row k l) j d
   unfolding taken
-  row_lowered l j y d a h = fun_ext (λ i. go i (cases_eq i j))
+  row_lowered l l' j y d w a h = ap (row k) w ∙ fun_ext (λ i. go i (cases_eq i j))
     where
       go : (i : ℕ) → (i ≡ j) ⊎ (i ≡ j → ⊥) → row k (set l j y) i ≡ cond (eqb i j) (minus k.group (row k l i) d) (row k l i)
       go i (inl p) =

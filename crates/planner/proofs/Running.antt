@@ -1,5 +1,5 @@
 -- A run on its way: the code's loop and the run of the theory.
-use Rattle.std.proofs.Common.{◌≡◌, ℕ, zero, suc, pred, ◌+◌, ◌*◌, ◌/◌, ◌%◌, ◌^◌, ◌<◌, ◌≤◌, Bool, true, false, cond, eqb, ◌⊎◌, [], get_or, sym, refl, ap, ◌∙◌, subst, ap₂, inl, inr, pow-suc, add-one, arith}
+use Rattle.std.proofs.Common.{◌≡◌, ℕ, zero, suc, pred, ◌+◌, ◌*◌, ◌/◌, ◌%◌, ◌^◌, ◌<◌, ◌≤◌, Bool, true, false, cond, eqb, ◌⊎◌, [], get_or, Some, Option, sym, refl, ap, ◌∙◌, subst, ap₂, inl, inr, pow-suc, add-one, arith}
 use mathlib.Core.Path.{fun_ext}
 use Rattle.std.proofs.lemmas.Nat.{mul-le}
 use Rattle.std.proofs.lemmas.Bool.{cases_lt}
@@ -10,7 +10,7 @@ use Rattle.groups.specs.Group.{Ordered}
 use Rattle.groups.specs.Sums.{Le}
 use Rattle.flow.specs.Counts.{sum_n, bit as one}
 use Rattle.flow.specs.Flow.{Task}
-use Rattle.flow.specs.Routes.{augment, held_along, Route}
+use Rattle.flow.specs.Routes.{augment, Route}
 use Rattle.flow.specs.Search.{Search, searching, found, search_all, trace}
 use Rattle.flow.specs.Told.{told, search_of}
 use Rattle.flow.specs.Runs.{pairs}
@@ -22,13 +22,16 @@ use Rattle.flow.proofs.Settled.{settled_from, settled_all}
 use Rattle.amounts.specs.declared.Amount.{Ghosts}
 use Rattle.planner.specs.declared.answer.Answer.TheVariants.{Plan, Blocked, Outgrown}
 use Rattle.planner.specs.declared.state.Seek.{Seek}
+use Rattle.planner.specs.declared.state.Words.{Words}
 use Rattle.planner.specs.declared.tables.Tables.{Tables}
+use Rattle.planner.specs.declared.way.Way.{Way}
+use Rattle.planner.specs.Along.{links, least_on, fits_on, held_on, writable_on, stepped_on}
 use Rattle.planner.specs.Answers.{answer_by, posed, Ran}
-use Rattle.planner.specs.Finds.{Leads}
+use Rattle.planner.specs.Finds.{Leads, Finds}
 use Rattle.planner.specs.Model.{model, tests}
 use Rattle.planner.specs.Same.{Same, state}
-use Rattle.planner.specs.Tables.{row, table}
-use Rattle.planner.specs.Ways.{trail, least_along, fits_along, writable_along, stepped}
+use Rattle.planner.specs.Tables.{row}
+use Rattle.planner.specs.Ways.{least_along, fits_along}
 use Rattle.planner.proofs.Apart.{held_back_along}
 
 -- the limit of a run of at most 64 members is small
@@ -96,39 +99,41 @@ module _ {V : Type 0} {g : Ghosts V} (t₀ : Tables V g) where
           unsettled true e = absurd (omega (arith, bit_none 64 t.words.givers fits (λ j l. none e j (cases_lt j t₀.words.n))))
 
     -- a way is found
-    module _ (q : Seek) (z : ℕ) (h : Leads t.words q z) where
-      there : (search_of g.kind.group task (state t)).ends ≡ found z
+    module _ (y : Way) (h : Leads t.words y.seek.now y.receiver) where
+      there : (search_of g.kind.group task (state t)).ends ≡ found y.receiver
       there = sym (ap (λ T. (search_all T).ends) agree) ∙ h.ends
 
-      same_way : way_to g.kind.group task (state t) z ≡ trail t.words q z
-      same_way = sym (ap₂ (λ T m. trace T m (search_all T) ((search_all T).from z) []) agree p.same.size) ∙ h.way
+      same_way : way_to g.kind.group task (state t) y.receiver ≡ links t y
+      same_way = sym (ap₂ (λ T m. trace T m (search_all T) ((search_all T).from y.receiver) []) agree p.same.size) ∙ h.way
 
-      pub apart : (d : g.kind.group.Element) → writable_along g.kind (trail t.words q z) (state t) z d
-          ≡ held_along g.kind.group g.kind.held d (trail t.words q z).first (trail t.words q z).hops z (table g.kind t.transfers.now)
+      pub apart : (d : g.kind.group.Element) → writable_on t y d ≡ held_on t y d
       apart d =
-          held_back_along g.kind.group task (state t) g.kind.held d 0 (trail t.words q z).first (trail t.words q z).hops z
-          (subst (λ y. Route g.kind.group task (state t) 0 y.first y.hops z) same_way (found_route g.kind.group task (state t) z there).1)
+          held_back_along g.kind.group task (state t) g.kind.held d 0 (links t y).first (links t y).hops y.receiver
+          (subst (λ r. Route g.kind.group task (state t) 0 r.first r.hops y.receiver) same_way (found_route g.kind.group task (state t) y.receiver there).1)
 
-      -- whether the step is held, as the run sees it
-      same_held : (r : Bool) → r ≡ fits_along g.kind (trail t.words q z) (state t) z (least_along g.kind (trail t.words q z) (state t) z)
-          → step_held g.kind.group g.kind.held (state t) (way_to g.kind.group task (state t) z).first (way_to g.kind.group task (state t) z).hops z ≡ r
-      unfolding step_held
-      same_held r e = ap (λ y. fits_along g.kind y (state t) z (least_along g.kind y (state t) z)) same_way ∙ sym e
+      module _ (r : Bool) (e : r ≡ fits_on t y (least_on t y)) (u : Tables V g) where
+        -- whether the step is held, as the run sees it
+        same_held : step_held g.kind.group g.kind.held (state t) (way_to g.kind.group task (state t) y.receiver).first (way_to g.kind.group task (state t) y.receiver).hops y.receiver ≡ r
+        unfolding step_held
+        same_held = ap (λ l. fits_along g.kind l (state t) y.receiver (least_along g.kind l (state t) y.receiver)) same_way ∙ sym e
 
-      module _ (r : Bool) (e : r ≡ fits_along g.kind (trail t.words q z) (state t) z (least_along g.kind (trail t.words q z) (state t) z)) (u : Tables V g) where
         pub run_outgrown : r ≡ false → state u ≡ state t → Ran g.kind task (Outgrown steps) u.transfers.now u.to_give.now u.to_get.now
         run_outgrown refused left =
-            let end = reached_outgrown g.kind.group g.kind.held task steps (state t) p.reached z there (same_held r e ∙ refused) in
+            let end = reached_outgrown g.kind.group g.kind.held task steps (state t) p.reached y.receiver there (same_held ∙ refused) in
             record { answer = sym (ap (λ o. answer_by o.end o.steps) end); state = left ∙ sym (ap (λ o. o.state) end) }
 
         pub run_steps : Ordered g.kind.group → ((j : ℕ) → j < t₀.words.n → Le g.kind.group g.kind.group.nil (row g.kind t₀.to_give.now j))
-            → r ≡ true → Same t₀ u → state u ≡ stepped g.kind (trail t.words q z) (state t) z → Running u (steps + 1)
+            → r ≡ true → Same t₀ u → state u ≡ stepped_on t y → Running u (steps + 1)
         run_steps L least done-so same done =
             record {
               same = same;
               reached =
                   subst (λ c. Reached g.kind.group g.kind.held task c (state u)) (sym (add-one steps))
                   (subst (Reached g.kind.group g.kind.held task (suc steps))
-                  (sym (done ∙ ap (λ y. augment g.kind.group y.first y.hops z (state t)) (sym same_way)))
-                  (reached_step g.kind.group L g.kind.held task least steps (state t) p.reached z there (same_held r e ∙ done-so)));
+                  (sym (done ∙ ap (λ l. augment g.kind.group l.first l.hops y.receiver (state t)) (sym same_way)))
+                  (reached_step g.kind.group L g.kind.held task least steps (state t) p.reached y.receiver there (same_held ∙ done-so)));
             }
+
+-- what the search found leads along the way that is made of it
+pub leads_on : (w : Words) (q : Seek) (z : ℕ) (end : Option ℕ) (y : Way) → end ≡ Some z → Finds w q end → y.seek.now ≡ q → y.receiver ≡ z → Leads w y.seek.now y.receiver
+leads_on w q z end y e f eq ez = subst (Leads w y.seek.now) (sym ez) (subst (λ s. Leads w s z) (sym eq) (subst (Finds w q) e f))

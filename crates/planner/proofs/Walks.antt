@@ -7,14 +7,15 @@ use Rattle.groups.specs.Group.{Ordered}
 use Rattle.groups.specs.Sums.{minus, lesser}
 use Rattle.flow.specs.Flow.{State}
 use Rattle.flow.specs.Routes.{Hop, bump, push, least, amount, held_along}
-use Rattle.flow.specs.Search.{Way, trace, found}
+use Rattle.flow.specs.Search.{Way as Links, trace, found}
 use Rattle.flow.proofs.Pushes.{push_back}
 use Rattle.amounts.specs.Kind.{Kind}
-use Rattle.planner.specs.declared.hops.Hops.{Hops}
+use Rattle.planner.specs.declared.way.Hops.{Hops}
+use Rattle.planner.specs.declared.way.Way.{Way}
 use Rattle.planner.specs.declared.state.Link.{Link}
 use Rattle.planner.specs.declared.state.Words.{Words}
 use Rattle.planner.specs.declared.state.Seek.{Seek}
-use Rattle.planner.specs.Hops.{Ends, GoesOn}
+use Rattle.planner.specs.Hops.{Among, Begins, Ends, GoesOn}
 use Rattle.planner.specs.Model.{model, tests, Sound}
 use Rattle.planner.specs.Tables.{table}
 use Rattle.planner.specs.Ways.{trail, least_along, fits_along, held_back}
@@ -31,21 +32,12 @@ module _ (w : Words) (q : Seek) (z : ℕ) where
     pub seek : s.seek.now ≡ q
     pub givers : s.givers ≡ w.givers
 
-  pub back_start : (s : Hops) → z < w.n → Sound w.n q → s.seek.now ≡ q → s.givers ≡ w.givers → s.turns ≡ w.n → s.giver ≡ get_or q.from z 0 → Back s []
-  back_start s l f eq eg et ej =
-      record {
-        on = ap₂ (λ m j. trace (tests w) m (model (found z) q) j []) (sym et) (sym ej);
-        inside = subst (λ j. j < w.n) (sym ej) (f.sources z (omega arith));
-        seek = eq;
-        givers = eg;
-      }
-
   -- the hop of a link
   abbrev pub hop_of : Link → Hop
   hop_of l = record { over = l.receiver; to = l.giver }
 
   module _ (s t : Hops) (l : Link) (hs : List Hop) (g : GoesOn s l t) (p : Back s hs) where
-    further : Way
+    further : Links
     further = trace (tests w) t.turns (model (found z) q) (get_or q.from (get_or q.via s.giver 0) 0) (record { over = get_or q.via s.giver 0; to = s.giver } ∷ hs)
 
     over : get_or q.via s.giver 0 ≡ l.receiver
@@ -82,6 +74,24 @@ module _ (w : Words) (q : Seek) (z : ℕ) where
       go zero e = refl
       go (suc m) (inl e) = absurd (omega arith)
       go (suc m) (inr e) = cond-true (bit w.givers s.giver) (record { first = s.giver; hops = hs }) _ (ap (λ v. bit v s.giver) (sym p.givers) ∙ e)
+
+-- a way among members ends at one of them, and its search was among them
+module _ (w : Words) (y : Way) (a : Among w y) where
+  pub receiver_inside : y.receiver < w.n
+  receiver_inside = subst (λ n. y.receiver < n) a.members y.inside
+
+  pub among_sound : Sound w.n y.seek.now
+  among_sound = subst (λ n. Sound n y.seek.now) a.members y.sound
+
+  -- the walk as it begins
+  pub back_start : (s : Hops) → Begins y s → Back w y.seek.now y.receiver s []
+  back_start s b =
+      record {
+        on = ap₂ (λ m j. trace (tests w) m (model (found y.receiver) y.seek.now) j []) (sym (b.turns ∙ a.members)) (sym b.giver);
+        inside = subst (λ j. j < w.n) (sym b.giver) (among_sound.sources y.receiver (omega (arith, receiver_inside)));
+        seek = b.seek;
+        givers = b.givers ∙ a.givers;
+      }
 
 module _ {V : Type 0} (k : Kind V) (w : Words) (s : State k.group.Element) (q : Seek) (z : ℕ) where
   -- the least of the amounts on the links walked
@@ -182,7 +192,7 @@ module _ {V : Type 0} (k : Kind V) (w : Words) (s : State k.group.Element) (q : 
         }
 
     -- a way that is writable is so from each of its givers on
-    Writable : Way → Type 0
+    Writable : Links → Type 0
     Writable way = held_back k.group k.held d way.first way.hops z s.x ≡ true
 
     writable_from : (b j : ℕ) (hs : List Hop) → Writable (trace (tests w) b (model (found z) q) j hs) → Writable (record { first = j; hops = hs })
@@ -191,7 +201,7 @@ module _ {V : Type 0} (k : Kind V) (w : Words) (s : State k.group.Element) (q : 
     writable_from (suc b) j hs h =
         go (bit w.givers j) h (writable_from b (get_or q.from (get_or q.via j 0) 0) (record { over = get_or q.via j 0; to = j } ∷ hs))
       where
-        more : Way
+        more : Links
         more = trace (tests w) b (model (found z) q) (get_or q.from (get_or q.via j 0) 0) (record { over = get_or q.via j 0; to = j } ∷ hs)
 
         go : (t : Bool) → Writable (cond t (record { first = j; hops = hs }) more)

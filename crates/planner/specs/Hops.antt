@@ -1,10 +1,24 @@
 -- A way that is walked back, one link at a time.
 use Rattle.std.specs.Prelude.{◌≡◌, suc, true, false, ◌⊎◌, Option, MatchOption, slice_index}
 use Rattle.words.specs.Words.{bit}
-use Rattle.planner.specs.declared.hops.Hops.{Hops}
 use Rattle.planner.specs.declared.state.Link.{Link}
+use Rattle.planner.specs.declared.state.Words.{Words}
+use Rattle.planner.specs.declared.way.Hops.{Hops}
+use Rattle.planner.specs.declared.way.Way.{Way}
 
--- the way starts from the giver where it stands, or it is as long as it may be
+-- the way is one among these members and givers
+pub record Among (w : Words) (y : Way) : Type 0 where
+  pub members : y.members ≡ w.n
+  pub givers : y.givers ≡ w.givers
+
+-- the walk stands where the way ends, at the giver from whom its receiver was seen
+pub record Begins (y : Way) (s : Hops) : Type 0 where
+  pub seek : s.seek.now ≡ y.seek.now
+  pub givers : s.givers ≡ y.givers
+  pub turns : s.turns ≡ y.members
+  pub giver : s.giver ≡ slice_index y.seek.now.from y.receiver
+
+-- the way starts from the giver where the walk stands, or it is as long as it may be
 pub record Ends (s t : Hops) : Type 0 where
   pub starts : (s.turns ≡ 0) ⊎ (bit s.givers s.giver ≡ true)
   pub giver : t.giver ≡ s.giver

@@ -1,5 +1,7 @@
+pub mod Along
 pub mod Answers
 pub mod Calls
+pub mod Changes
 pub mod Finds
 pub mod Fitted
 pub mod Hops

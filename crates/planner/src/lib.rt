@@ -3,13 +3,14 @@
 
 mod answer;
 mod call;
+mod change;
 mod checks;
-mod hops;
 mod hunt;
 mod run;
 mod state;
 mod tables;
 mod walk;
+mod way;
 mod worked;
 
 pub use answer::Answer;

@@ -10,6 +10,7 @@ use crate::answer::Answer;
 use crate::hunt::find;
 use crate::state::Seek;
 use crate::tables::Tables;
+use crate::way::Way;
 use amounts::Amount;
 
 // The count of steps after one more.
@@ -47,7 +48,8 @@ impl<K: Amount> Tables<'_, K> {
                 }
                 return blocked(steps, &found.seek);
             };
-            let Ok(()) = self.step(&found.seek, z) else {
+            let way = Way::new(&found.seek, &self.words, z);
+            let Ok(()) = self.step(&way) else {
                 return Answer::Outgrown { steps };
             };
             steps = one_more(steps);

@@ -1,148 +1,112 @@
-ghost use Rattle.std.specs.Prelude.{◌≡◌, ◌<◌, true, ◌&&◌, if◌then◌else◌, is_ok};
-ghost use Rattle.groups.specs.Sums.{minus};
-ghost use Rattle.flow.specs.Routes.{bump, held_along};
-ghost use Rattle.planner.specs.Model.{Sound};
+ghost use Rattle.std.specs.Prelude.{◌≡◌, ◌<◌, true, if◌then◌else◌, is_ok};
+ghost use Rattle.flow.specs.Routes.{bump};
+ghost use Rattle.planner.specs.Along.{links, least_on, fits_on, held_on, writable_on, moved_on, stepped_on};
+ghost use Rattle.planner.specs.Changes.{amount_of, by, changed};
+ghost use Rattle.planner.specs.Hops.{Among};
 ghost use Rattle.planner.specs.Same.{Same, state};
 ghost use Rattle.planner.specs.Tables.{table};
-ghost use Rattle.planner.specs.Ways.{trail, least_along, fits_along, writable_along, moved_along, stepped};
 
-use crate::hops::Hops;
-use crate::state::Seek;
+use crate::change::Change;
 use crate::tables::Tables;
+use crate::way::Way;
 use amounts::{Amount, lesser};
 
 // A step that would leave an amount that is not held.
 #[derive(Clone, Copy)]
 pub(crate) struct NotHeld;
 
-fn holds_sum<K: Amount>(a: K, d: K) -> bool
-    requires a { K.Amount.kind.value a ≡ true }
-    requires d { K.Amount.kind.value d ≡ true }
-    ensures { result ≡ K.Amount.kind.held (K.Amount.kind.group.plus (K.Amount.kind.element a) (K.Amount.kind.element d)) }
-{
-    a.sum(d).is_some()
-}
-
-fn holds_difference<K: Amount>(a: K, d: K) -> bool
-    requires a { K.Amount.kind.value a ≡ true }
-    requires d { K.Amount.kind.value d ≡ true }
-    ensures { result ≡ K.Amount.kind.held (minus K.Amount.kind.group (K.Amount.kind.element a) (K.Amount.kind.element d)) }
-{
-    a.difference(d).is_some()
-}
-
 impl<K: Amount> Tables<'_, K> {
-    // The least amount on the way back from receiver z: what its giver has to give, what z has to get, and
-    // every transfer that would be taken back.
-    fn least(&self, q: &Seek, z: usize) -> K
-        requires sound { Sound self.now.words.n q.now }
-        requires receiver { z < self.now.words.n }
+    // The least amount on a way: what its giver has to give, what its receiver has to get, and every transfer
+    // that would be taken back.
+    fn least(&self, way: &Way) -> K
+        requires { Among self.now.words way.now }
         ensures value { K.Amount.kind.value result ≡ true }
-        ensures least { K.Amount.kind.element result ≡ least_along K.Amount.kind (trail self.now.words q.now z) (state self.now) z }
+        ensures least { K.Amount.kind.element result ≡ least_on self.now way.now }
     {
-        let mut d = self.to_get[z];
-        let mut hops = Hops::new(q, &self.words, z);
+        let mut d = self.to_get[way.receiver];
+        let mut hops = way.hops();
         while let Some(link) = hops.next() {
             d = lesser(self.transfers[64 * link.giver + link.receiver], d);
         }
         lesser(self.to_give[hops.giver], d)
     }
 
-    // Whether d can be moved along the way back from receiver z: every amount that it would leave is held.
-    fn fits(&self, q: &Seek, z: usize, d: K) -> bool
-        requires sound { Sound self.now.words.n q.now }
-        requires receiver { z < self.now.words.n }
+    // Whether d can be moved along a way: every amount that it would leave is held.
+    fn fits(&self, way: &Way, d: K) -> bool
+        requires way { Among self.now.words way.now }
         requires value { K.Amount.kind.value d ≡ true }
-        ensures { result ≡ fits_along K.Amount.kind (trail self.now.words q.now z) (state self.now) z (K.Amount.kind.element d) }
+        ensures { result ≡ fits_on self.now way.now (K.Amount.kind.element d) }
     {
         let mut fits = true;
-        let mut i = z;
-        let mut hops = Hops::new(q, &self.words, z);
+        let mut i = way.receiver;
+        let mut hops = way.hops();
         while let Some(link) = hops.next() {
-            fits &= holds_sum(self.transfers[64 * link.giver + i], d);
-            fits &= holds_difference(self.transfers[64 * link.giver + link.receiver], d);
+            fits &= Change::Add(d).is_held(self.transfers[64 * link.giver + i]);
+            fits &= Change::Take(d).is_held(self.transfers[64 * link.giver + link.receiver]);
             i = link.receiver;
         }
-        let v = hops.giver;
-        fits & holds_sum(self.transfers[64 * v + i], d)
-            & holds_difference(self.to_give[v], d)
-            & holds_difference(self.to_get[z], d)
+        let j = hops.giver;
+        fits & Change::Add(d).is_held(self.transfers[64 * j + i])
+            & Change::Take(d).is_held(self.to_give[j])
+            & Change::Take(d).is_held(self.to_get[way.receiver])
     }
 
-    // Adds d to the transfer from j to i.
-    fn raise(&mut self, j: usize, i: usize, d: K)
+    // Changes the transfer from j to i.
+    fn change(&mut self, j: usize, i: usize, change: Change<K>)
         requires giver { j < self.old.words.n }
         requires receiver { i < self.old.words.n }
-        requires value { K.Amount.kind.value d ≡ true }
-        requires room { K.Amount.kind.held (K.Amount.kind.group.plus (table K.Amount.kind self.old.transfers.now j i) (K.Amount.kind.element d)) ≡ true }
+        requires value { K.Amount.kind.value (amount_of change) ≡ true }
+        requires room { K.Amount.kind.held (changed K.Amount.kind change (table K.Amount.kind self.old.transfers.now j i)) ≡ true }
         ensures same { Same self.old self.new }
-        ensures done { table K.Amount.kind self.new.transfers.now ≡ bump K.Amount.kind.group (table K.Amount.kind self.old.transfers.now) j i (K.Amount.kind.element d) }
+        ensures done { table K.Amount.kind self.new.transfers.now ≡ bump K.Amount.kind.group (table K.Amount.kind self.old.transfers.now) j i (by K.Amount.kind change) }
         ensures gives { self.new.to_give.now ≡ self.old.to_give.now }
         ensures gets { self.new.to_get.now ≡ self.old.to_get.now }
         ensures givers { self.new.words.givers ≡ self.old.words.givers }
     {
-        let more = self.transfers[64 * j + i].sum(d).unwrap();
-        self.put_transfer(j, i, more);
+        let left = change.of(self.transfers[64 * j + i]).unwrap();
+        self.put_transfer(j, i, left);
     }
 
-    // Takes d from the transfer from j to i.
-    fn lower(&mut self, j: usize, i: usize, d: K)
-        requires giver { j < self.old.words.n }
-        requires receiver { i < self.old.words.n }
+    // Moves d along a way, and answers the giver where the way starts.
+    fn carry(&mut self, way: &Way, d: K) -> usize
+        requires way { Among self.old.words way.now }
         requires value { K.Amount.kind.value d ≡ true }
-        requires room { K.Amount.kind.held (minus K.Amount.kind.group (table K.Amount.kind self.old.transfers.now j i) (K.Amount.kind.element d)) ≡ true }
+        requires room { writable_on self.old way.now (K.Amount.kind.element d) ≡ true }
         ensures same { Same self.old self.new }
-        ensures done { table K.Amount.kind self.new.transfers.now ≡ bump K.Amount.kind.group (table K.Amount.kind self.old.transfers.now) j i (K.Amount.kind.group.neg (K.Amount.kind.element d)) }
-        ensures gives { self.new.to_give.now ≡ self.old.to_give.now }
-        ensures gets { self.new.to_get.now ≡ self.old.to_get.now }
-        ensures givers { self.new.words.givers ≡ self.old.words.givers }
-    {
-        let less = self.transfers[64 * j + i].difference(d).unwrap();
-        self.put_transfer(j, i, less);
-    }
-
-    // Moves d along the way back from receiver z, and answers the giver where the way starts.
-    fn carry(&mut self, q: &Seek, z: usize, d: K) -> usize
-        requires sound { Sound self.old.words.n q.now }
-        requires receiver { z < self.old.words.n }
-        requires value { K.Amount.kind.value d ≡ true }
-        requires room { writable_along K.Amount.kind (trail self.old.words q.now z) (state self.old) z (K.Amount.kind.element d) ≡ true }
-        ensures same { Same self.old self.new }
-        ensures giver { (result < self.old.words.n) × (result ≡ (trail self.old.words q.now z).first) }
-        ensures moved { table K.Amount.kind self.new.transfers.now ≡ moved_along K.Amount.kind (trail self.old.words q.now z) (state self.old) z (K.Amount.kind.element d) }
+        ensures giver { (result < self.old.words.n) × (result ≡ (links self.old way.now).first) }
+        ensures moved { table K.Amount.kind self.new.transfers.now ≡ moved_on self.old way.now (K.Amount.kind.element d) }
         ensures gives { self.new.to_give.now ≡ self.old.to_give.now }
         ensures gets { self.new.to_get.now ≡ self.old.to_get.now }
     {
-        let mut i = z;
-        let mut hops = Hops::new(q, &self.words, z);
+        let mut i = way.receiver;
+        let mut hops = way.hops();
         while let Some(link) = hops.next() {
-            self.raise(link.giver, i, d);
-            self.lower(link.giver, link.receiver, d);
+            self.change(link.giver, i, Change::Add(d));
+            self.change(link.giver, link.receiver, Change::Take(d));
             i = link.receiver;
         }
-        self.raise(hops.giver, i, d);
+        self.change(hops.giver, i, Change::Add(d));
         hops.giver
     }
 
-    // One step along the way that the search found to receiver z: the least amount is moved along it. Where
-    // that would leave an amount that is not held, nothing is written.
-    pub(crate) fn step(&mut self, q: &Seek, z: usize) -> Result<(), NotHeld>
-        requires sound { Sound self.old.words.n q.now }
-        requires receiver { z < self.old.words.n }
-        requires apart { writable_along K.Amount.kind (trail self.old.words q.now z) (state self.old) z (least_along K.Amount.kind (trail self.old.words q.now z) (state self.old) z) ≡ held_along K.Amount.kind.group K.Amount.kind.held (least_along K.Amount.kind (trail self.old.words q.now z) (state self.old) z) (trail self.old.words q.now z).first (trail self.old.words q.now z).hops z (table K.Amount.kind self.old.transfers.now) }
+    // One step along the way that a search found: the least amount is moved along it. Where that would leave
+    // an amount that is not held, nothing is written.
+    pub(crate) fn step(&mut self, way: &Way) -> Result<(), NotHeld>
+        requires way { Among self.old.words way.now }
+        requires apart { writable_on self.old way.now (least_on self.old way.now) ≡ held_on self.old way.now (least_on self.old way.now) }
         ensures same { Same self.old self.new }
-        ensures fits { is_ok result ≡ fits_along K.Amount.kind (trail self.old.words q.now z) (state self.old) z (least_along K.Amount.kind (trail self.old.words q.now z) (state self.old) z) }
-        ensures done { state self.new ≡ (if is_ok result then stepped K.Amount.kind (trail self.old.words q.now z) (state self.old) z else state self.old) }
+        ensures fits { is_ok result ≡ fits_on self.old way.now (least_on self.old way.now) }
+        ensures done { state self.new ≡ (if is_ok result then stepped_on self.old way.now else state self.old) }
     {
-        let d = self.least(q, z);
-        if !self.fits(q, z, d) {
+        let d = self.least(way);
+        if !self.fits(way, d) {
             return Err(NotHeld);
         }
-        let v = self.carry(q, z, d);
-        let left = self.to_give[v].difference(d).unwrap();
-        self.put_give(v, left);
-        let rest = self.to_get[z].difference(d).unwrap();
-        self.put_get(z, rest);
+        let j = self.carry(way, d);
+        let left = Change::Take(d).of(self.to_give[j]).unwrap();
+        self.put_give(j, left);
+        let rest = Change::Take(d).of(self.to_get[way.receiver]).unwrap();
+        self.put_get(way.receiver, rest);
         Ok(())
     }
 }

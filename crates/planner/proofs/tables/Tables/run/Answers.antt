@@ -1,12 +1,11 @@
-use Rattle.std.proofs.Common.{◌^◌, ◌<◌, true, false, sym, refl, ◌∙◌, subst, arith, rules}
+use Rattle.std.proofs.Common.{◌^◌, ◌<◌, true, false, sym, refl, subst, arith, rules}
 use Rattle.flow.proofs.Reached.{reached_start}
 use Rattle.flow.specs.Reached.{Reached}
 use Rattle.planner.specs.Answers.{Ran}
 use Rattle.planner.specs.Finds.{Finds}
-use Rattle.planner.specs.Ways.{trail, least_along}
-use Rattle.planner.specs.Same.{state}
+use Rattle.planner.specs.Along.{least_on}
 use Rattle.planner.proofs.Entries.{row_held}
-use Rattle.planner.proofs.Running.{Running, task, limit_small, run_plans, run_blocks, run_outgrown, run_steps, apart}
+use Rattle.planner.proofs.Running.{Running, task, limit_small, run_plans, run_blocks, run_outgrown, run_steps, apart, leads_on}
 use Rattle.planner.proofs.tables.Tables.run.Goals as goal
 
 pub turn-init : goal.turn-init
@@ -37,13 +36,18 @@ returns-in_default-clause-ran g c =
 pub step-requires-clause-apart : goal.step-requires-clause-apart
 step-requires-clause-apart g c =
     let t = c.turn.self in
-    let q = c.find-found.result.seek in
-    apart c.args.self.now t c.turn.steps c.turn.invariant q c.in-Some.z (subst (Finds t.words q) c.in-Some.is c.find-found.ensures.finds) (least_along g.K.Amount.kind (trail t.words q c.in-Some.z) (state t) c.in-Some.z)
+    let way = c.new-way in
+    apart c.args.self.now t c.turn.steps c.turn.invariant way.result
+    (leads_on t.words c.find-found.result.seek c.in-Some.z c.find-found.result.end way.result c.in-Some.is c.find-found.ensures.finds way.ensures.seek way.ensures.receiver)
+    (least_on t way.result)
 
 pub returns-in_default-step-clause-ran : goal.returns-in_default-step-clause-ran
 returns-in_default-step-clause-ran g c =
-    let q = c.find-found.result.seek in
-    run_outgrown c.args.self.now c.turn.self c.turn.steps c.turn.invariant q c.in-Some.z (subst (Finds c.turn.self.words q) c.in-Some.is c.find-found.ensures.finds) false c.in_default-step.ensures.fits c.step.new.self refl c.in_default-step.ensures.done
+    let t = c.turn.self in
+    let way = c.new-way in
+    run_outgrown c.args.self.now t c.turn.steps c.turn.invariant way.result
+    (leads_on t.words c.find-found.result.seek c.in-Some.z c.find-found.result.end way.result c.in-Some.is c.find-found.ensures.finds way.ensures.seek way.ensures.receiver)
+    false c.in_default-step.ensures.fits c.step.new.self refl c.in_default-step.ensures.done
 
 pub one_more-steps-requires : goal.one_more-steps-requires
 one_more-steps-requires g c =
@@ -53,11 +57,9 @@ one_more-steps-requires g c =
 
 pub turn-preserved : goal.turn-preserved
 turn-preserved g c =
-    let q = c.find-found.result.seek in
-    let same = c.turn.invariant.same in
-    let on = c.step.ensures.same in
+    let t = c.turn.self in
+    let way = c.new-way in
     subst (Running c.args.self.now c.step.new.self) (omega (arith, c.one_more-steps.ensures))
-    (run_steps c.args.self.now c.turn.self c.turn.steps c.turn.invariant q c.in-Some.z (subst (Finds c.turn.self.words q) c.in-Some.is c.find-found.ensures.finds) true c.in-Ok.ensures.fits c.step.new.self
-    g.met.K.Amount.lawful.ordered c.requires.least refl
-    (record { size = on.size ∙ same.size; rules = on.rules ∙ same.rules; transfers = on.transfers ∙ same.transfers; to_give = on.to_give ∙ same.to_give; to_get = on.to_get ∙ same.to_get })
-    c.in-Ok.ensures.done)
+    (run_steps c.args.self.now t c.turn.steps c.turn.invariant way.result
+    (leads_on t.words c.find-found.result.seek c.in-Some.z c.find-found.result.end way.result c.in-Some.is c.find-found.ensures.finds way.ensures.seek way.ensures.receiver)
+    true c.in-Ok.ensures.fits c.step.new.self g.met.K.Amount.lawful.ordered c.requires.least refl (search rules) c.in-Ok.ensures.done)

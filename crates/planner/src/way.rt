@@ -4,8 +4,20 @@ ghost use Rattle.planner.specs.Model.{Sound};
 
 use crate::state::{Link, Seek, Words};
 
-// The way that a search found, walked back from its receiver: each link here is taken back, from the giver
-// where the way stands to the receiver through whom the search came to it.
+// The way that a search found back from a receiver, with the givers who have something to give.
+#[derive(Drop)]
+pub(crate) struct Way<'a> {
+    seek: &'a Seek,
+    pub(crate) receiver: usize,
+    members: usize,
+    givers: u64,
+    ghost size: { members ≤ 64 },
+    ghost sound: { Sound members seek.now },
+    ghost inside: { receiver < members },
+}
+
+// A walk along a way, from its receiver back. Each link here is one whose transfer is taken back: from the
+// giver where the walk stands to the receiver through whom the search came to that giver.
 #[derive(Drop)]
 pub(crate) struct Hops<'a> {
     seek: &'a Seek,
@@ -17,22 +29,35 @@ pub(crate) struct Hops<'a> {
     ghost bridges: { (k : ℕ) → slice_index seek.now.via k < 64 },
 }
 
-impl<'a> Hops<'a> {
-    // The way back from receiver z.
-    pub(crate) fn new(seek: &'a Seek, words: &Words, z: usize) -> Hops<'a>
+impl<'a> Way<'a> {
+    ghost use Rattle.planner.specs.Hops.{Among, Begins};
+
+    // The way back from a receiver.
+    pub(crate) fn new(seek: &'a Seek, words: &Words, receiver: usize) -> Way<'a>
         requires size { words.now.n ≤ 64 }
         requires sound { Sound words.now.n seek.now }
-        requires receiver { z < words.now.n }
+        requires receiver { receiver < words.now.n }
         ensures seek { result.seek.now ≡ seek.now }
-        ensures givers { result.givers ≡ words.now.givers }
-        ensures turns { result.turns ≡ words.now.n }
-        ensures giver { result.giver ≡ slice_index seek.now.from z }
+        ensures receiver { result.receiver ≡ receiver }
+        ensures among { Among words.now result }
+    {
+        Way {
+            seek,
+            receiver,
+            members: words.n,
+            givers: words.givers,
+        }
+    }
+
+    // A walk that begins at the giver from whom the receiver was seen.
+    pub(crate) fn hops(&self) -> Hops<'a>
+        ensures { Begins self.now result }
     {
         Hops {
-            seek,
-            givers: words.givers,
-            turns: words.n,
-            giver: seek.from[z] as usize,
+            seek: self.seek,
+            givers: self.givers,
+            turns: self.members,
+            giver: self.seek.from[self.receiver] as usize,
         }
     }
 }

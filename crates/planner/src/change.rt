@@ -1,0 +1,36 @@
+ghost use Rattle.std.specs.Prelude.{◌≡◌, true};
+ghost use Rattle.amounts.specs.Kind.{Stands};
+ghost use Rattle.planner.specs.Changes.{amount_of, changed};
+
+use amounts::Amount;
+
+// An amount that is added to another, or taken from it.
+#[derive(Clone, Copy)]
+pub(crate) enum Change<K: Amount> {
+    Add(K),
+    Take(K),
+}
+
+impl<K: Amount> Change<K> {
+    // What the change makes of an amount; nothing where that is not held.
+    #[tactic(auto, using(crate::proofs::Bumped::stands_held))]
+    pub(crate) fn of(self, amount: K) -> Option<K>
+        requires amount { K.Amount.kind.value amount ≡ true }
+        requires change { K.Amount.kind.value (amount_of self) ≡ true }
+        ensures { Stands K.Amount.kind (K.Amount.kind.held (changed K.Amount.kind self (K.Amount.kind.element amount))) (changed K.Amount.kind self (K.Amount.kind.element amount)) result }
+    {
+        match self {
+            Change::Add(d) => amount.sum(d),
+            Change::Take(d) => amount.difference(d),
+        }
+    }
+
+    // Whether what the change makes of an amount is held.
+    pub(crate) fn is_held(self, amount: K) -> bool
+        requires amount { K.Amount.kind.value amount ≡ true }
+        requires change { K.Amount.kind.value (amount_of self) ≡ true }
+        ensures { result ≡ K.Amount.kind.held (changed K.Amount.kind self (K.Amount.kind.element amount)) }
+    {
+        self.of(amount).is_some()
+    }
+}
