@@ -34,7 +34,6 @@ impl<'a> Way<'a> {
 
     // The way back from a receiver.
     pub(crate) fn new(seek: &'a Seek, words: &Words, receiver: usize) -> Way<'a>
-        requires size { words.now.n ≤ 64 }
         requires sound { Sound words.now.n seek.now }
         requires receiver { receiver < words.now.n }
         ensures seek { result.seek.now ≡ seek.now }
