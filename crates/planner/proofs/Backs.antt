@@ -1,5 +1,5 @@
 -- The sweep back from a receiver, as a loop over the places of a word.
-use Rattle.std.proofs.Common.{◌≡◌, ℕ, ◌<◌, true, false, cond, not, ◌&&◌, eqb, get_or, sym, ap, ◌∙◌, subst, arith}
+use Rattle.std.proofs.Common.{◌≡◌, ℕ, ◌<◌, true, false, not, ◌&&◌, get_or, sym, ap, ◌∙◌, subst, arith}
 use Rattle.std.proofs.lemmas.Bool.{and_left, and_parts, not-true}
 use Rattle.words.specs.Words.{bit, Lowest}
 use Rattle.words.specs.Sweep.{Swept}

@@ -56,14 +56,14 @@ module _ (n : ℕ) (q : Seek) (k : ℕ) (s : Sound n q) (m : n ≤ 64) (l : k < 
     -- giver k has joined
     abbrev pub after : Seek
     after =
-        record { queue = set q.queue q.tail k; head = q.head; tail = q.tail + 1; reached = v; seen = q.seen; from = q.from; via = set q.via k i }
+        record { queue = set q.queue q.tail k; head = q.head; tail = q.tail + 1; reached = v; seen = q.seen; marks = record { from = q.marks.from; via = set q.marks.via k i } }
 
     space : q.tail < length q.queue
     space = omega (arith, room_left, s.queues)
 
     pub after_model : (z : Ends) → model z after ≡ joined i k (model z q)
     after_model z =
-        λ j. record { pending = queue j; reached = b j; seen = bit q.seen; from = places q.from; via = marked q.via k i 0 (omega (arith, s.vias)) j; ends = z }
+        λ j. record { pending = queue j; reached = b j; seen = bit q.seen; from = places q.marks.from; via = marked q.marks.via k i 0 (omega (arith, s.marks.vias)) j; ends = z }
       where
         queue : drop q.head (take (q.tail + 1) (set q.queue q.tail k)) ≡ drop q.head (take q.tail q.queue) ++ (k ∷ [])
         queue =
@@ -75,15 +75,17 @@ module _ (n : ℕ) (q : Seek) (k : ℕ) (s : Sound n q) (m : n ≤ 64) (l : k < 
     after_sound = record {
       ahead = omega (arith, s.ahead);
       queues = length-set q.queue q.tail k ∙ s.queues;
-      froms = s.froms;
-      vias = length-set q.via k i ∙ s.vias;
       room =
           let more = count_lt n (bit q.reached) (mark (bit q.reached) k true) k l (λ j a f. mark_keeps (bit q.reached) k j f) e (mark_same (bit q.reached) k true) in
           let same : count n (bit v) ≡ count n (mark (bit q.reached) k true) = ap (count n) b in
           omega (arith, more, s.room, same);
       members = λ c h. members c h (cases_eq c q.tail);
-      sources = s.sources;
-      bridges = λ c h. set_below n q.via k i y s.bridges c h;
+      marks = record {
+        froms = s.marks.froms;
+        vias = length-set q.marks.via k i ∙ s.marks.vias;
+        sources = s.marks.sources;
+        bridges = λ c h. set_below n q.marks.via k i y s.marks.bridges c h;
+      };
     }
       where
         members : (c : ℕ) → c < q.tail + 1 → (c ≡ q.tail) ⊎ (c ≡ q.tail → ⊥) → get_or (set q.queue q.tail k) c 0 < n

@@ -35,22 +35,24 @@ outs_start w q j v h =
 module _ (n : ℕ) (q : Seek) (j i m : ℕ) (s : Sound n q) (y : j < n) (z : i < n) (o : n ≤ 64) (e : (k : ℕ) → bit m k ≡ cond (eqb k i) true (bit q.seen k)) where
   abbrev pub seen_too : Seek
   seen_too =
-      record { queue = q.queue; head = q.head; tail = q.tail; reached = q.reached; seen = m; from = set q.from i j; via = q.via }
+      record { queue = q.queue; head = q.head; tail = q.tail; reached = q.reached; seen = m; marks = record { from = set q.marks.from i j; via = q.marks.via } }
 
   pub noted_model : (z : Ends) → model z seen_too ≡ noted j i (model z q)
   noted_model ends =
-      λ k. record { pending = (model ends q).pending; reached = bit q.reached; seen = bit_marked q.seen i m e k; from = marked q.from i j 0 (omega (arith, s.froms)) k; via = places q.via; ends = ends }
+      λ k. record { pending = (model ends q).pending; reached = bit q.reached; seen = bit_marked q.seen i m e k; from = marked q.marks.from i j 0 (omega (arith, s.marks.froms)) k; via = places q.marks.via; ends = ends }
 
   pub noted_sound : Sound n seen_too
   noted_sound = record {
     ahead = s.ahead;
     queues = s.queues;
-    froms = length-set q.from i j ∙ s.froms;
-    vias = s.vias;
     room = s.room;
     members = s.members;
-    sources = λ c h. set_below n q.from i j y s.sources c h;
-    bridges = s.bridges;
+    marks = record {
+      froms = length-set q.marks.from i j ∙ s.marks.froms;
+      vias = s.marks.vias;
+      sources = λ c h. set_below n q.marks.from i j y s.marks.sources c h;
+      bridges = s.marks.bridges;
+    };
   }
 
 module _ (w : Words) (q₀ q : Seek) (j v i u : ℕ) (b : Outing w j q₀ v q) (l : Lowest v i u) where

@@ -1,5 +1,5 @@
 -- A run on its way: the code's loop and the run of the theory.
-use Rattle.std.proofs.Common.{◌≡◌, ℕ, zero, suc, pred, ◌+◌, ◌*◌, ◌/◌, ◌%◌, ◌^◌, ◌<◌, ◌≤◌, Bool, true, false, cond, eqb, ◌⊎◌, [], get_or, Some, Option, sym, refl, ap, ◌∙◌, subst, ap₂, inl, inr, pow-suc, add-one, arith}
+use Rattle.std.proofs.Common.{◌≡◌, ℕ, suc, pred, ◌+◌, ◌*◌, ◌^◌, ◌<◌, ◌≤◌, Bool, true, false, ◌⊎◌, [], get_or, sym, refl, ap, ◌∙◌, subst, ap₂, inl, inr, add-one, arith}
 use mathlib.Core.Path.{fun_ext}
 use Rattle.std.proofs.lemmas.Nat.{mul-le}
 use Rattle.std.proofs.lemmas.Bool.{cases_lt}
@@ -11,7 +11,7 @@ use Rattle.groups.specs.Sums.{Le}
 use Rattle.flow.specs.Counts.{sum_n, bit as one}
 use Rattle.flow.specs.Flow.{Task}
 use Rattle.flow.specs.Routes.{augment, Route}
-use Rattle.flow.specs.Search.{Search, searching, found, search_all, trace}
+use Rattle.flow.specs.Search.{searching, found, search_all, trace}
 use Rattle.flow.specs.Told.{told, search_of}
 use Rattle.flow.specs.Runs.{pairs}
 use Rattle.flow.specs.Outcomes.{limit, settled, way_to, step_held}
@@ -21,14 +21,12 @@ use Rattle.flow.proofs.Reached.{found_route, reached_step, reached_outgrown, rea
 use Rattle.flow.proofs.Settled.{settled_from, settled_all}
 use Rattle.amounts.specs.declared.Amount.{Ghosts}
 use Rattle.planner.specs.declared.answer.Answer.TheVariants.{Plan, Blocked, Outgrown}
-use Rattle.planner.specs.declared.state.Seek.{Seek}
-use Rattle.planner.specs.declared.state.Words.{Words}
 use Rattle.planner.specs.declared.tables.Tables.{Tables}
 use Rattle.planner.specs.declared.way.Way.{Way}
 use Rattle.planner.specs.Along.{links, least_on, fits_on, held_on, writable_on, stepped_on}
 use Rattle.planner.specs.Answers.{answer_by, posed, Ran}
-use Rattle.planner.specs.Finds.{Leads, Finds}
-use Rattle.planner.specs.Model.{model, tests}
+use Rattle.planner.specs.Finds.{Leads, Stuck}
+use Rattle.planner.specs.Model.{tests}
 use Rattle.planner.specs.Same.{Same, state}
 use Rattle.planner.specs.Tables.{row}
 use Rattle.planner.specs.Ways.{least_along, fits_along}
@@ -69,13 +67,10 @@ module _ {V : Type 0} {g : Ghosts V} (t₀ : Tables V g) where
           above = fun_ext (λ a. fun_ext (t.kept.holding a)) i;
         }
 
-    looked : (q : Search) → q ≡ search_all (tests t.words) → search_of g.kind.group task (state t) ≡ q
-    looked q h = sym (h ∙ ap search_all agree)
-
     -- no way is found
-    module _ (q : Seek) (h : model searching q ≡ search_all (tests t.words)) where
+    module _ (reached : ℕ) (h : Stuck t.words reached) where
       over : (search_of g.kind.group task (state t)).ends ≡ searching
-      over = ap (λ r. r.ends) (looked (model searching q) h)
+      over = sym (ap (λ T. (search_all T).ends) agree) ∙ h.ends
 
       pub run_plans : t.words.givers ≡ 0 → Ran g.kind task (Plan steps) t.transfers.now t.to_give.now t.to_get.now
       run_plans e =
@@ -83,11 +78,11 @@ module _ {V : Type 0} {g : Ghosts V} (t₀ : Tables V g) where
           (settled_from g.kind.group task (state t) (λ j l. sym (t.kept.giving j) ∙ ap (λ v. bit v j) e ∙ bit_zero j)) in
           record { answer = sym (ap (λ o. answer_by o.end o.steps) end); state = sym (ap (λ o. o.state) end) }
 
-      pub run_blocks : 0 < t.words.givers → t.words.givers < 2 ^ 64 → q.reached < 2 ^ 64
-          → Ran g.kind task (Blocked steps q.reached) t.transfers.now t.to_give.now t.to_get.now
+      pub run_blocks : 0 < t.words.givers → t.words.givers < 2 ^ 64 → reached < 2 ^ 64
+          → Ran g.kind task (Blocked steps reached) t.transfers.now t.to_give.now t.to_get.now
       run_blocks some fits small =
           let end = reached_blocked g.kind.group g.kind.held task steps (state t) p.reached over (unsettled (settled g.kind.group task (state t)) refl) in
-          let set : word_of 64 (search_of g.kind.group task (state t)).reached ≡ q.reached = ap (λ r. word_of 64 r.reached) (looked (model searching q) h) ∙ word_same 64 q.reached small in
+          let set : word_of 64 (search_of g.kind.group task (state t)).reached ≡ reached = ap (word_of 64) (sym (ap (λ T. (search_all T).reached) agree) ∙ h.givers) ∙ word_same 64 reached small in
           record { answer = sym (ap (λ o. answer_by o.end o.steps) end ∙ ap (Blocked steps) set); state = sym (ap (λ o. o.state) end) }
         where
           none : settled g.kind.group task (state t) ≡ true → (j : ℕ) → (j < t₀.words.n) ⊎ (t₀.words.n ≤ j) → bit t.words.givers j ≡ false
@@ -99,7 +94,7 @@ module _ {V : Type 0} {g : Ghosts V} (t₀ : Tables V g) where
           unsettled true e = absurd (omega (arith, bit_none 64 t.words.givers fits (λ j l. none e j (cases_lt j t₀.words.n))))
 
     -- a way is found
-    module _ (y : Way) (h : Leads t.words y.seek.now y.receiver) where
+    module _ (y : Way) (h : Leads t.words y) where
       there : (search_of g.kind.group task (state t)).ends ≡ found y.receiver
       there = sym (ap (λ T. (search_all T).ends) agree) ∙ h.ends
 
@@ -133,7 +128,3 @@ module _ {V : Type 0} {g : Ghosts V} (t₀ : Tables V g) where
                   (sym (done ∙ ap (λ l. augment g.kind.group l.first l.hops y.receiver (state t)) (sym same_way)))
                   (reached_step g.kind.group L g.kind.held task least steps (state t) p.reached y.receiver there (same_held ∙ done-so)));
             }
-
--- what the search found leads along the way that is made of it
-pub leads_on : (w : Words) (q : Seek) (z : ℕ) (end : Option ℕ) (y : Way) → end ≡ Some z → Finds w q end → y.seek.now ≡ q → y.receiver ≡ z → Leads w y.seek.now y.receiver
-leads_on w q z end y e f eq ez = subst (Leads w y.seek.now) (sym ez) (subst (λ s. Leads w s z) (sym eq) (subst (Finds w q) e f))

@@ -64,7 +64,7 @@ zeros (suc m) (suc k) = zeros m k
 module _ (w : Words) (queue : List ℕ) (tail : ℕ) (b : Starting w 0 (take tail queue)) (e : length queue ≡ 64) (o : tail < 65) where
   abbrev pub begun : Seek
   begun =
-      record { queue = queue; head = 0; tail = tail; reached = w.givers; seen = 0; from = replicate 64 0; via = replicate 64 0 }
+      record { queue = queue; head = 0; tail = tail; reached = w.givers; seen = 0; marks = record { from = replicate 64 0; via = replicate 64 0 } }
 
   all : take tail queue ≡ starters (tests w) w.n
   all = sweep_ends (start_test (tests w)) (start_act (tests w)) w.n [] (take tail queue) b
@@ -83,13 +83,15 @@ module _ (w : Words) (queue : List ℕ) (tail : ℕ) (b : Starting w 0 (take tai
   begun_sound h = record {
     ahead = omega arith;
     queues = e;
-    froms = refl;
-    vias = refl;
     room =
         let a : length (take tail queue) ≡ count w.n (bit w.givers) = ap length all ∙ length_starters (tests w) w.n in
         let t : length (take tail queue) ≡ tail = simp length-take (omega arith) in
         omega (arith, a, t);
     members = h;
-    sources = λ c p. subst (λ a. a < w.n) (sym (zeros 64 c)) p;
-    bridges = λ c p. subst (λ a. a < w.n) (sym (zeros 64 c)) p;
+    marks = record {
+      froms = refl;
+      vias = refl;
+      sources = λ c p. subst (λ a. a < w.n) (sym (zeros 64 c)) p;
+      bridges = λ c p. subst (λ a. a < w.n) (sym (zeros 64 c)) p;
+    };
   }

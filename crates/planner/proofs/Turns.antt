@@ -42,18 +42,15 @@ module _ (w : Words) (q : Seek) (s : Sound w.n q) where
 
     abbrev pub left : Seek
     left =
-        record { queue = q.queue; head = q.head + 1; tail = q.tail; reached = q.reached; seen = q.seen; from = q.from; via = q.via }
+        record { queue = q.queue; head = q.head + 1; tail = q.tail; reached = q.reached; seen = q.seen; marks = q.marks }
 
     pub left_sound : Sound w.n left
     left_sound = record {
       ahead = omega arith;
       queues = s.queues;
-      froms = s.froms;
-      vias = s.vias;
       room = s.room;
       members = s.members;
-      sources = s.sources;
-      bridges = s.bridges;
+      marks = s.marks;
     }
 
     pending : drop q.head (take q.tail q.queue) ≡ get_or q.queue q.head 0 ∷ drop (q.head + 1) (take q.tail q.queue)

@@ -7,30 +7,31 @@ use Rattle.groups.specs.Group.{Ordered}
 use Rattle.groups.specs.Sums.{minus, lesser}
 use Rattle.flow.specs.Flow.{State}
 use Rattle.flow.specs.Routes.{Hop, bump, push, least, amount, held_along}
-use Rattle.flow.specs.Search.{Way as Links, trace, found}
+use Rattle.flow.specs.Search.{Way as Links, trace}
 use Rattle.flow.proofs.Pushes.{push_back}
 use Rattle.amounts.specs.Kind.{Kind}
 use Rattle.planner.specs.declared.way.Hops.{Hops}
 use Rattle.planner.specs.declared.way.Way.{Way}
 use Rattle.planner.specs.declared.state.Link.{Link}
 use Rattle.planner.specs.declared.state.Words.{Words}
-use Rattle.planner.specs.declared.state.Seek.{Seek}
+use Rattle.planner.specs.declared.state.Marks.{Marks}
 use Rattle.planner.specs.Hops.{Among, Begins, Ends, GoesOn}
-use Rattle.planner.specs.Model.{model, tests, Sound}
+use Rattle.planner.specs.Inside.{Inside}
+use Rattle.planner.specs.Model.{marked, tests}
 use Rattle.planner.specs.Tables.{table}
 use Rattle.planner.specs.Ways.{trail, least_along, fits_along, held_back}
 
-module _ (w : Words) (q : Seek) (z : ℕ) where
+module _ (w : Words) (q : Marks) (z : ℕ) where
   -- the way from giver j on, when m more links of it may be walked
   abbrev pub On : ℕ → ℕ → List Hop → Type 0
-  On m j hs = trail w q z ≡ trace (tests w) m (model (found z) q) j hs
+  On m j hs = trail w q z ≡ trace (tests w) m (marked q z) j hs
 
   -- where the walk back stands, after these hops
   pub record Back (s : Hops) (hs : List Hop) : Type 0 where
     pub on : On s.turns s.giver hs
     pub inside : s.giver < w.n
-    pub seek : s.seek.now ≡ q
-    pub givers : s.givers ≡ w.givers
+    pub marks : s.way.now.marks ≡ q
+    pub givers : s.way.now.givers ≡ w.givers
 
   -- the hop of a link
   abbrev pub hop_of : Link → Hop
@@ -38,31 +39,31 @@ module _ (w : Words) (q : Seek) (z : ℕ) where
 
   module _ (s t : Hops) (l : Link) (hs : List Hop) (g : GoesOn s l t) (p : Back s hs) where
     further : Links
-    further = trace (tests w) t.turns (model (found z) q) (get_or q.from (get_or q.via s.giver 0) 0) (record { over = get_or q.via s.giver 0; to = s.giver } ∷ hs)
+    further = trace (tests w) t.turns (marked q z) (get_or q.from (get_or q.via s.giver 0) 0) (record { over = get_or q.via s.giver 0; to = s.giver } ∷ hs)
 
     over : get_or q.via s.giver 0 ≡ l.receiver
-    over = sym (g.receiver ∙ ap (λ a. get_or a.via s.giver 0) p.seek)
+    over = sym (g.receiver ∙ ap (λ a. get_or a.via s.giver 0) p.marks)
 
     there : get_or q.from (get_or q.via s.giver 0) 0 ≡ t.giver
-    there = ap (λ a. get_or q.from a 0) over ∙ sym (g.further ∙ ap (λ a. get_or a.from l.receiver 0) p.seek)
+    there = ap (λ a. get_or q.from a 0) over ∙ sym (g.further ∙ ap (λ a. get_or a.from l.receiver 0) p.marks)
 
     on_next : On t.turns (get_or q.from (get_or q.via s.giver 0) 0) (record { over = get_or q.via s.giver 0; to = s.giver } ∷ hs)
     unfolding trace further
     on_next =
-        p.on ∙ ap (λ b. trace (tests w) b (model (found z) q) s.giver hs) g.turns
+        p.on ∙ ap (λ b. trace (tests w) b (marked q z) s.giver hs) g.turns
         ∙ cond-false (bit w.givers s.giver) (record { first = s.giver; hops = hs }) further (ap (λ v. bit v s.giver) (sym p.givers) ∙ g.empty)
 
-    pub back_next : Sound w.n q → Back t (hop_of l ∷ hs)
+    pub back_next : Inside w.n q.from q.via → Back t (hop_of l ∷ hs)
     back_next f =
         record {
           on = on_next
-              ∙ ap₂ (λ j h. trace (tests w) t.turns (model (found z) q) j (h ∷ hs)) there (ap₂ (λ a b. record { over = a; to = b }) over (sym g.giver));
+              ∙ ap₂ (λ j h. trace (tests w) t.turns (marked q z) j (h ∷ hs)) there (ap₂ (λ a b. record { over = a; to = b }) over (sym g.giver));
           inside = subst (λ j. j < w.n) there (f.sources (get_or q.via s.giver 0) (omega (arith, p.inside)));
-          seek = g.seek ∙ p.seek;
-          givers = g.givers ∙ p.givers;
+          marks = ap (λ y. y.marks) g.way ∙ p.marks;
+          givers = ap (λ y. y.givers) g.way ∙ p.givers;
         }
 
-    pub link_inside : Sound w.n q → (l.giver < w.n) × (l.receiver < w.n)
+    pub link_inside : Inside w.n q.from q.via → (l.giver < w.n) × (l.receiver < w.n)
     link_inside f =
         (subst (λ a. a < w.n) (sym g.giver) p.inside, subst (λ a. a < w.n) over (f.bridges s.giver (omega (arith, p.inside))))
 
@@ -70,7 +71,7 @@ module _ (w : Words) (q : Seek) (z : ℕ) where
   unfolding trace
   back_end s t hs e p = (subst (λ j. j < w.n) (sym e.giver) p.inside, p.on ∙ go s.turns e.starts ∙ ap (λ j. record { first = j; hops = hs }) (sym e.giver))
     where
-      go : (m : ℕ) → (m ≡ 0) ⊎ (bit s.givers s.giver ≡ true) → trace (tests w) m (model (found z) q) s.giver hs ≡ record { first = s.giver; hops = hs }
+      go : (m : ℕ) → (m ≡ 0) ⊎ (bit s.way.now.givers s.giver ≡ true) → trace (tests w) m (marked q z) s.giver hs ≡ record { first = s.giver; hops = hs }
       go zero e = refl
       go (suc m) (inl e) = absurd (omega arith)
       go (suc m) (inr e) = cond-true (bit w.givers s.giver) (record { first = s.giver; hops = hs }) _ (ap (λ v. bit v s.giver) (sym p.givers) ∙ e)
@@ -78,22 +79,22 @@ module _ (w : Words) (q : Seek) (z : ℕ) where
 -- a way among members ends at one of them, and its search was among them
 module _ (w : Words) (y : Way) (a : Among w y) where
   pub receiver_inside : y.receiver < w.n
-  receiver_inside = subst (λ n. y.receiver < n) a.members y.inside
+  receiver_inside = subst (λ n. y.receiver < n) a.members y.ends
 
-  pub among_sound : Sound w.n y.seek.now
-  among_sound = subst (λ n. Sound n y.seek.now) a.members y.sound
+  pub among_inside : Inside w.n y.marks.from y.marks.via
+  among_inside = subst (λ n. Inside n y.marks.from y.marks.via) a.members y.inside
 
   -- the walk as it begins
-  pub back_start : (s : Hops) → Begins y s → Back w y.seek.now y.receiver s []
+  pub back_start : (s : Hops) → Begins y s → Back w y.marks y.receiver s []
   back_start s b =
       record {
-        on = ap₂ (λ m j. trace (tests w) m (model (found y.receiver) y.seek.now) j []) (sym (b.turns ∙ a.members)) (sym b.giver);
-        inside = subst (λ j. j < w.n) (sym b.giver) (among_sound.sources y.receiver (omega (arith, receiver_inside)));
-        seek = b.seek;
-        givers = b.givers ∙ a.givers;
+        on = ap₂ (λ m j. trace (tests w) m (marked y.marks y.receiver) j []) (sym (b.turns ∙ a.members)) (sym b.giver);
+        inside = subst (λ j. j < w.n) (sym b.giver) (among_inside.sources y.receiver (omega (arith, receiver_inside)));
+        marks = ap (λ x. x.marks) b.way;
+        givers = ap (λ x. x.givers) b.way ∙ a.givers;
       }
 
-module _ {V : Type 0} (k : Kind V) (w : Words) (s : State k.group.Element) (q : Seek) (z : ℕ) where
+module _ {V : Type 0} (k : Kind V) (w : Words) (s : State k.group.Element) (q : Marks) (z : ℕ) where
   -- the least of the amounts on the links walked
   pub record Least (h : Hops) (d : V) : Type 0 where
     pub hops : List Hop
@@ -101,7 +102,7 @@ module _ {V : Type 0} (k : Kind V) (w : Words) (s : State k.group.Element) (q : 
     pub good : k.value d ≡ true
     pub value : k.element d ≡ least k.group s.x (s.r z) hops
 
-  pub least_next : (h t : Hops) (l : Link) (d x e : V) → Sound w.n q → GoesOn h l t → k.element x ≡ s.x l.giver l.receiver
+  pub least_next : (h t : Hops) (l : Link) (d x e : V) → Inside w.n q.from q.via → GoesOn h l t → k.element x ≡ s.x l.giver l.receiver
       → k.value e ≡ true → k.element e ≡ lesser k.group (k.element x) (k.element d)
       → Least h d → Least t e
   least_next h t l d x e f g a v m p =
@@ -154,7 +155,7 @@ module _ {V : Type 0} (k : Kind V) (w : Words) (s : State k.group.Element) (q : 
     along j i hs ok sum e t h =
         and_comm ok sum ∙ ap₂ (λ a b. a && b) (h ∙ ap (λ r. k.held (k.group.plus (s.x j r) d)) e) t ∙ held_all d j hs
 
-    pub fits_next : (h t : Hops) (l : Link) (i : ℕ) (ok sum less : Bool) → Sound w.n q → GoesOn h l t
+    pub fits_next : (h t : Hops) (l : Link) (i : ℕ) (ok sum less : Bool) → Inside w.n q.from q.via → GoesOn h l t
         → sum ≡ k.held (k.group.plus (s.x l.giver i) d) → less ≡ k.held (minus k.group (s.x l.giver l.receiver) d)
         → Fits d h i ok → Fits d t l.receiver ((ok && sum) && less)
     fits_next h t l i ok sum less f g hs hl p =
@@ -195,14 +196,14 @@ module _ {V : Type 0} (k : Kind V) (w : Words) (s : State k.group.Element) (q : 
     Writable : Links → Type 0
     Writable way = held_back k.group k.held d way.first way.hops z s.x ≡ true
 
-    writable_from : (b j : ℕ) (hs : List Hop) → Writable (trace (tests w) b (model (found z) q) j hs) → Writable (record { first = j; hops = hs })
+    writable_from : (b j : ℕ) (hs : List Hop) → Writable (trace (tests w) b (marked q z) j hs) → Writable (record { first = j; hops = hs })
     unfolding trace Writable
     writable_from zero j hs h = h
     writable_from (suc b) j hs h =
         go (bit w.givers j) h (writable_from b (get_or q.from (get_or q.via j 0) 0) (record { over = get_or q.via j 0; to = j } ∷ hs))
       where
         more : Links
-        more = trace (tests w) b (model (found z) q) (get_or q.from (get_or q.via j 0) 0) (record { over = get_or q.via j 0; to = j } ∷ hs)
+        more = trace (tests w) b (marked q z) (get_or q.from (get_or q.via j 0) 0) (record { over = get_or q.via j 0; to = j } ∷ hs)
 
         go : (t : Bool) → Writable (cond t (record { first = j; hops = hs }) more)
             → (Writable more → Writable (record { first = get_or q.from (get_or q.via j 0) 0; hops = record { over = get_or q.via j 0; to = j } ∷ hs }))
@@ -225,7 +226,7 @@ module _ {V : Type 0} (k : Kind V) (w : Words) (s : State k.group.Element) (q : 
         let way = (back_end w q z h t p.hops e p.back).1 in
         (ap (λ y. y.first) (sym way), raised ∙ p.moved t.giver ∙ ap (λ y. push k.group d y.first y.hops z s.x) (sym way))
 
-    module _ (h t : Hops) (l : Link) (i : ℕ) (xs ys : List V) (g : GoesOn h l t) (f : Sound w.n q) (p : Moved h i xs)
+    module _ (h t : Hops) (l : Link) (i : ℕ) (xs ys : List V) (g : GoesOn h l t) (f : Inside w.n q.from q.via) (p : Moved h i xs)
         (raised : table k ys ≡ bump k.group (table k xs) l.giver i d) where
       -- the first link too
       whole : table k ys ≡ push k.group d l.giver p.hops z s.x

@@ -1,5 +1,5 @@
 -- The answer of a plan call, from the outcome of a run.
-use Rattle.std.specs.Prelude.{◌≡◌, ℕ, zero, suc, ◌+◌, ◌*◌, Bool, cond, List, slice_index}
+use Rattle.std.specs.Prelude.{◌≡◌, ℕ, List, slice_index}
 use Rattle.words.specs.Words.{bit, word_of}
 use Rattle.flow.specs.Flow.{Task}
 use Rattle.flow.specs.Outcomes.{End, planned, blocked, outgrown, Outcome, outcome}

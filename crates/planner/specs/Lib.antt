@@ -5,6 +5,7 @@ pub mod Changes
 pub mod Finds
 pub mod Fitted
 pub mod Hops
+pub mod Inside
 pub mod Model
 pub mod Same
 pub mod Step

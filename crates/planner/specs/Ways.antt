@@ -4,11 +4,11 @@ use Rattle.groups.specs.Group.{Group}
 use Rattle.groups.specs.Sums.{minus}
 use Rattle.flow.specs.Flow.{State}
 use Rattle.flow.specs.Routes.{Hop, bump, amount, augment, push, held_along}
-use Rattle.flow.specs.Search.{Way, trace, found}
+use Rattle.flow.specs.Search.{Way, trace}
 use Rattle.amounts.specs.Kind.{Kind}
 use Rattle.planner.specs.declared.state.Words.{Words}
-use Rattle.planner.specs.declared.state.Seek.{Seek}
-use Rattle.planner.specs.Model.{model, tests}
+use Rattle.planner.specs.declared.state.Marks.{Marks}
+use Rattle.planner.specs.Model.{marked, tests}
 
 -- an amount d that is written link by link, from the last receiver back to the first giver, is held at every link
 abbrev pub held_back : (G : Group) → (G.Element → Bool) → G.Element → ℕ → List Hop → ℕ → (ℕ → ℕ → G.Element) → Bool
@@ -19,8 +19,8 @@ held_back G held d v (h ∷ hs) z x =
     && held (G.plus (bump G (push G d h.to hs z x) h.to h.over (G.neg d) v h.over) d))
 
 -- the way back from receiver z to a starting giver
-abbrev pub trail : Words → Seek → ℕ → Way
-trail w q z = trace (tests w) w.n (model (found z) q) (slice_index q.from z) []
+abbrev pub trail : Words → Marks → ℕ → Way
+trail w m z = trace (tests w) w.n (marked m z) (slice_index m.from z) []
 
 module _ {V : Type 0} (k : Kind V) where
   -- the least amount along a way

@@ -1,10 +1,11 @@
 ghost use Rattle.std.specs.Prelude.{◌≡◌, ℕ, ◌<◌, true, false, not, ◌&&◌, length, IfSome, slice_index};
 ghost use Rattle.words.specs.Words.{bit};
 ghost use Rattle.flow.specs.Search.{Ends, searching, joined, noted, backs, outs, fresh as untouched};
-ghost use Rattle.planner.specs.Finds.{Finds, Straight};
+ghost use Rattle.planner.specs.Finds.{Finds, Leads, Straight};
 ghost use Rattle.planner.specs.Model.{model, tests, Sound, Popped, ending, Within};
 
-use crate::state::{Found, Link, Seek, Words};
+use crate::state::{Link, Marks, Seek, Words};
+use crate::way::Way;
 use words::Places;
 
 // A search on its way among the words of a run.
@@ -36,8 +37,10 @@ impl<'a> Search<'a> {
                 tail,
                 reached: words.givers,
                 seen: 0,
-                from: [0; 64],
-                via: [0; 64],
+                marks: Marks {
+                    from: [0; 64],
+                    via: [0; 64],
+                },
             },
         }
     }
@@ -89,7 +92,7 @@ impl<'a> Search<'a> {
         ensures words { self.new.words.now ≡ self.old.words.now }
     {
         self.seek.reached = words::with(self.seek.reached, k);
-        self.seek.via[k] = i as u8;
+        self.seek.marks.via[k] = i as u8;
         self.seek.queue[self.seek.tail] = k as u8;
         self.seek.tail += 1;
     }
@@ -115,7 +118,7 @@ impl<'a> Search<'a> {
         ensures words { self.new.words.now ≡ self.old.words.now }
     {
         self.seek.seen = words::with(self.seek.seen, i);
-        self.seek.from[i] = j as u8;
+        self.seek.marks.from[i] = j as u8;
     }
 
     // Takes the receivers permitted from giver j in rising number, and answers the first that has still to get.
@@ -138,24 +141,21 @@ impl<'a> Search<'a> {
 }
 
 // Visits one giver after another from the queue's front, until a receiver is found or the queue is empty.
-fn search_all(w: &Words) -> Found
-    ensures finds { Finds w.now result.seek result.end }
-    ensures sound { Sound w.now.n result.seek }
-    ensures member { Within w.now.n result.end }
+fn search_all(w: &Words) -> Result<Way, u64>
+    ensures { Finds w.now result }
 {
     let mut search = Search::start(w);
     while let Some(j) = search.pop() {
-        if let Some(i) = search.visit(j) {
-            return Found {
-                seek: search.seek,
-                end: Some(i),
-            };
+        if let Some(receiver) = search.visit(j) {
+            return Ok(Way {
+                marks: search.seek.marks,
+                receiver,
+                members: w.n,
+                givers: w.givers,
+            });
         }
     }
-    Found {
-        seek: search.seek,
-        end: None,
-    }
+    Err(search.seek.reached)
 }
 
 // The receivers permitted from giver j that have still to get.
@@ -184,36 +184,27 @@ fn at_once(w: &Words) -> Option<Link>
 }
 
 // The way of one link.
-fn straight(w: &Words, link: Link) -> Found
+fn straight(w: &Words, link: Link) -> Way
     requires { Straight w.now link.giver link.receiver }
-    ensures finds { Finds w.now result.seek result.end }
-    ensures sound { Sound w.now.n result.seek }
-    ensures member { Within w.now.n result.end }
+    ensures { Leads w.now result }
 {
     let mut from = [0; 64];
     from[link.receiver] = link.giver as u8;
-    Found {
-        seek: Seek {
-            queue: [0; 64],
-            head: 0,
-            tail: 0,
-            reached: w.givers,
-            seen: 0,
-            from,
-            via: [0; 64],
-        },
-        end: Some(link.receiver),
+    Way {
+        marks: Marks { from, via: [0; 64] },
+        receiver: link.receiver,
+        members: w.n,
+        givers: w.givers,
     }
 }
 
-// What the search of a step finds. It is searched for only where it is not found at once.
-pub(crate) fn find(w: &Words) -> Found
-    ensures finds { Finds w.now result.seek result.end }
-    ensures sound { Sound w.now.n result.seek }
-    ensures member { Within w.now.n result.end }
+// The way that the search of a step finds, or else the givers whom it reached. It is searched for only where it is not
+// found at once.
+pub(crate) fn find(w: &Words) -> Result<Way, u64>
+    ensures { Finds w.now result }
 {
     match at_once(w) {
-        Some(link) => straight(w, link),
+        Some(link) => Ok(straight(w, link)),
         None => search_all(w),
     }
 }

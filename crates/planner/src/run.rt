@@ -8,9 +8,7 @@ ghost use Rattle.planner.specs.Tables.{row};
 
 use crate::answer::Answer;
 use crate::hunt::find;
-use crate::state::Seek;
 use crate::tables::Tables;
-use crate::way::Way;
 use amounts::Amount;
 
 // The count of steps after one more.
@@ -22,12 +20,12 @@ fn one_more(steps: usize) -> usize
 }
 
 // The answer of a search that ended nowhere: the givers whom it reached block the circle.
-fn blocked(steps: usize, q: &Seek) -> Answer
-    ensures { result ≡ Blocked steps q.now.reached }
+fn blocked(steps: usize, reached: u64) -> Answer
+    ensures { result ≡ Blocked steps reached }
 {
     Answer::Blocked {
         steps,
-        members: q.reached,
+        members: reached,
     }
 }
 
@@ -41,14 +39,11 @@ impl<K: Amount> Tables<'_, K> {
     {
         let mut steps = 0;
         'turn: loop {
-            let found = find(&self.words);
-            let Some(z) = found.end else {
-                if self.words.givers == 0 {
-                    return Answer::Plan { steps };
-                }
-                return blocked(steps, &found.seek);
+            let way = match find(&self.words) {
+                Ok(way) => way,
+                Err(_) if self.words.givers == 0 => return Answer::Plan { steps },
+                Err(reached) => return blocked(steps, reached),
             };
-            let way = Way::new(&found.seek, &self.words, z);
             let Ok(()) = self.step(&way) else {
                 return Answer::Outgrown { steps };
             };

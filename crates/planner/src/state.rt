@@ -11,6 +11,15 @@ pub(crate) struct Words {
     ghost fitted: { Fitted n permitted givers holders },
 }
 
+// For each receiver that a search has seen, the giver from whom it saw it, and for each giver that it has reached back,
+// the receiver through whom it did.
+#[derive(Drop)]
+pub(crate) struct Marks {
+    pub(crate) from: [u8; 64],
+    pub(crate) via: [u8; 64],
+}
+
+// Where a search stands. The queue has 64 places, since nothing is put on a heap.
 #[derive(Drop)]
 pub(crate) struct Seek {
     pub(crate) queue: [u8; 64],
@@ -18,14 +27,7 @@ pub(crate) struct Seek {
     pub(crate) tail: usize,
     pub(crate) reached: u64,
     pub(crate) seen: u64,
-    pub(crate) from: [u8; 64],
-    pub(crate) via: [u8; 64],
-}
-
-#[derive(Drop)]
-pub(crate) struct Found {
-    pub(crate) seek: Seek,
-    pub(crate) end: Option<usize>,
+    pub(crate) marks: Marks,
 }
 
 // A giver and a receiver permitted from it.

@@ -1,9 +1,8 @@
-use Rattle.std.proofs.Common.{◌≡◌, sym, ap, ◌∙◌, subst, ap₂, arith}
+use Rattle.std.proofs.Common.{◌≡◌, sym, refl, ap, ◌∙◌, subst, ap₂, arith}
 use Rattle.flow.specs.Search.{searching, found, turns, fresh, outs, search_all}
-use Rattle.planner.specs.Finds.{Leads}
 use Rattle.planner.specs.Model.{model, tests}
 use Rattle.planner.proofs.Turns.{tail_most, turns_end, turn_made, turn_found}
-use Rattle.planner.proofs.Straights.{search_leads}
+use Rattle.planner.proofs.Straights.{search_way}
 use Rattle.planner.proofs.hunt.search_all.Goals as goal
 
 pub loop-j-init : goal.loop-j-init
@@ -11,16 +10,22 @@ unfolding turns
 loop-j-init c =
     (c.start-search.ensures.stands ∙ sym (ap (λ h. turns (tests c.args.w.now) h (fresh (tests c.args.w.now))) c.start-search.ensures.first), c.start-search.ensures.words)
 
-pub returns-in-Some-visit-clause-finds : goal.returns-in-Some-visit-clause-finds
-returns-in-Some-visit-clause-finds c =
+pub returns-in-Some-visit : goal.returns-in-Some-visit
+returns-in-Some-visit c =
     let s = c.loop-j.search in
+    let q = c.visit.new.self.seek in
+    let i = c.in-Some-visit.receiver in
     let taken = c.in-Some.ensures.popped in
     let stands = subst (λ w. model searching s.seek ≡ turns (tests w) s.seek.head (fresh (tests w))) (sym c.loop-j.invariant.1) c.loop-j.invariant.0 in
     let visited = c.in-Some-visit.ensures.stands ∙ ap (λ w. outs (tests w) c.in-Some.j w.n (model searching c.pop.new.self.seek)) c.pop.ensures.words
     ∙ ap₂ (λ j q. outs (tests s.words.now) j s.words.now.n (model searching q)) taken.giver taken.left in
-    subst (λ w. Leads w c.visit.new.self.seek c.in-Some-visit.i) c.loop-j.invariant.1
-    (search_leads s.words.now c.visit.new.self.seek c.in-Some-visit.i
-    (turn_found s.words.now s.seek s.sound taken.ahead stands c.in-Some-visit.i c.visit.new.self.seek visited))
+    let whole : model (found i) q ≡ search_all (tests c.args.w.now) =
+    turn_found s.words.now s.seek s.sound taken.ahead stands i q visited ∙ ap (λ w. search_all (tests w)) c.loop-j.invariant.1 in
+    record {
+      ends = sym (ap (λ r. r.ends) whole);
+      way = search_way c.args.w.now q i whole;
+      among = record { members = refl; givers = refl };
+    }
 
 pub loop-j-smaller : goal.loop-j-smaller
 loop-j-smaller c =
@@ -42,9 +47,11 @@ loop-j-preserved c =
       c.in_default-visit.ensures.words ∙ c.pop.ensures.words ∙ c.loop-j.invariant.1,
     )
 
-pub returns-clause-finds : goal.returns-clause-finds
-returns-clause-finds c =
+pub returns : goal.returns
+returns c =
     let s = c.loop-j.search in
     let popped = c.in_default.ensures.popped in
     let stands = subst (λ w. model searching s.seek ≡ turns (tests w) s.seek.head (fresh (tests w))) (sym c.loop-j.invariant.1) c.loop-j.invariant.0 in
-    ap (model searching) popped.1 ∙ turns_end s.words.now s.seek s.sound searching popped.0 stands ∙ ap (λ w. search_all (tests w)) c.loop-j.invariant.1
+    let whole : model searching c.pop.new.self.seek ≡ search_all (tests c.args.w.now) =
+    ap (model searching) popped.1 ∙ turns_end s.words.now s.seek s.sound searching popped.0 stands ∙ ap (λ w. search_all (tests w)) c.loop-j.invariant.1 in
+    record { ends = sym (ap (λ r. r.ends) whole); givers = sym (ap (λ r. r.reached) whole) }
