@@ -15,7 +15,6 @@ use Rattle.planner.specs.Calls.{all_first, weight_fits, weights_fit, asked}
 use Rattle.planner.specs.Fitted.{Fitted}
 use Rattle.planner.specs.Step.{InStep}
 use Rattle.planner.specs.Tables.{row, table, values, state_of}
-use Rattle.planner.proofs.Checked.{first_at}
 use Rattle.planner.proofs.Entries.{row_here, row_else, row_past, row_read}
 
 pub zeros : (m j : ℕ) → get_or {A = ℕ} (replicate m 0) j 0 ≡ 0
@@ -86,9 +85,6 @@ module _ {V : Type 0} (k : Kind V) where
   abbrev pub Weighed : ℕ → List V → List V → Type 0
   Weighed j ws l = (i : ℕ) → row k l i ≡ cond (ltb i j) (row k ws i) k.group.nil
 
-  pub weighed_none : (ws l : List V) → ((i : ℕ) → row k l i ≡ k.group.nil) → Weighed 0 ws l
-  weighed_none ws l h i = h i ∙ sym (ap (λ b. cond b (row k ws i) k.group.nil) (le-ltb i 0 (omega arith)))
-
   pub weighed_more : (ws l m : List V) (j : ℕ) (x : V) → j < length l → j < length ws → x ≡ get_or ws j x → m ≡ set l j x → Weighed j ws l → Weighed (j + 1) ws m
   weighed_more ws l m j x h hw e w p i = ap (λ a. row k a i) w ∙ go (cases_eq i j)
     where
@@ -149,9 +145,6 @@ module _ {V : Type 0} (k : Kind V) where
 
   -- a weight that passes is a value that is not below zero
   module _ (law : Lawful k) (n : ℕ) (ws : List V) (fit : weights_fit k n ws ≡ true) (room : n ≤ length ws) where
-    pub weight_at : (j : ℕ) (x : V) → j < n → x ≡ get_or ws j x → k.value x ≡ true
-    weight_at j x l r = (and_parts (k.value x) (k.group.le k.group.nil (k.element x)) (first_at (weight_fits k) n ws j x l (omega arith) r fit)).0
-
     rows_fit : (m : ℕ) (vs : List V) → all_first (weight_fits k) m vs ≡ true → (j : ℕ) → j < m → j < length vs
         → (k.held (row k vs j) ≡ true) × Le k.group k.group.nil (row k vs j)
     unfolding row all_first

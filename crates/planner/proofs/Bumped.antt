@@ -6,7 +6,7 @@ use Rattle.groups.specs.Sums.{minus}
 use Rattle.flow.specs.Routes.{bump, taken}
 use Rattle.amounts.specs.Kind.{Kind, Stands, StandsFor, sound}
 use Rattle.planner.specs.declared.change.Change.{Change}
-use Rattle.planner.specs.Changes.{changed}
+use Rattle.planner.specs.Changes.{changed, Changed}
 use Rattle.planner.specs.Tables.{row, table}
 use Rattle.planner.proofs.Entries.{row_here, row_else, table_here, table_else}
 
@@ -24,7 +24,7 @@ module _ {V : Type 0} (k : Kind V) where
 
   -- x stands for e, and a change is made of it
   module _ (x : V) (c : Change V) (e : k.group.Element) (has : StandsFor k x e) (r : Option V)
-      (made : Stands k (k.held (changed k c (k.element x))) (changed k c (k.element x)) r) where
+      (made : Changed k c (k.element x) r) where
     pub change_given : k.held (changed k c e) ≡ true → is_some r ≡ true
     change_given h = given _ _ r (ap (λ y. k.held (changed k c y)) has.1 ∙ h) made
 

@@ -146,9 +146,6 @@ module _ {V : Type 0} (k : Kind V) (w : Words) (s : State k.group.Element) (q : 
     pub told : ok ≡ behind d hops
 
   module _ (d : k.group.Element) where
-    pub fits_start : (h : Hops) → z < w.n → Back w q z h [] → Fits d h z true
-    fits_start h l p = record { hops = []; back = p; inside = l; there = refl; told = refl }
-
     -- the first link too
     along : (j i : ℕ) (hs : List Hop) (ok sum : Bool) → i ≡ leads hs → ok ≡ behind d hs → sum ≡ k.held (k.group.plus (s.x j i) d)
         → (ok && sum) ≡ held_along k.group k.held d j hs z s.x
@@ -181,16 +178,6 @@ module _ {V : Type 0} (k : Kind V) (w : Words) (s : State k.group.Element) (q : 
       pub inside : i < w.n
       pub half : (v : ℕ) → (writable : held_back k.group k.held d v hops z s.x ≡ true) → k.held (k.group.plus (table k xs v i) d) ≡ true
       pub moved : (v : ℕ) → bump k.group (table k xs) v i d ≡ push k.group d v hops z s.x
-
-    pub moved_start : (h : Hops) (xs : List V) → z < w.n → Back w q z h [] → table k xs ≡ s.x → Moved h z xs
-    moved_start h xs l p e =
-        record {
-          hops = [];
-          back = p;
-          inside = l;
-          half = λ v h. ap (λ y. k.held (k.group.plus (y v z) d)) e ∙ h;
-          moved = λ v. ap (λ y. bump k.group y v z d) e;
-        }
 
     -- a way that is writable is so from each of its givers on
     Writable : Links → Type 0

@@ -29,9 +29,9 @@ fn rules(n: usize, permissions: &[u64]) -> [u64; 64]
 {
     let all = words::first(n);
     let mut r = [0; 64];
-    // By index: `array::from_fn` gives no fact of a captured word, and `iter_mut` none of what is written.
-    for j in 0..n {
-        r[j] = words::both(all, permissions[j]);
+    // `r[j]` is written by index: a proof cannot name `r` in a loop over its `iter_mut`.
+    for (j, word) in permissions[..n].iter().enumerate() {
+        r[j] = words::both(all, *word);
     }
     r
 }
@@ -57,7 +57,7 @@ impl<K: Amount> Tables<'_, K> {
     }
 }
 
-// Fills the tables as a run begins, and runs.
+// Fills the tables as a run begins, and runs. Its parameters are those of `plan`, which the C function has too.
 fn start<K: Amount>(
     n: usize,
     weights: &[K],

@@ -1,6 +1,5 @@
 ghost use Rattle.std.specs.Prelude.{◌≡◌, true};
-ghost use Rattle.amounts.specs.Kind.{Stands};
-ghost use Rattle.planner.specs.Changes.{amount_of, changed};
+ghost use Rattle.planner.specs.Changes.{amount_of, changed, Changed};
 
 use amounts::Amount;
 
@@ -17,7 +16,7 @@ impl<K: Amount> Change<K> {
     pub(crate) fn of(self, amount: K) -> Option<K>
         requires amount { K.Amount.kind.value amount ≡ true }
         requires change { K.Amount.kind.value (amount_of self) ≡ true }
-        ensures { Stands K.Amount.kind (K.Amount.kind.held (changed K.Amount.kind self (K.Amount.kind.element amount))) (changed K.Amount.kind self (K.Amount.kind.element amount)) result }
+        ensures { Changed K.Amount.kind self (K.Amount.kind.element amount) result }
     {
         match self {
             Change::Add(d) => amount.sum(d),

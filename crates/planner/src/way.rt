@@ -17,7 +17,8 @@ pub(crate) struct Way {
 }
 
 // A walk along a way, from its receiver back. Each link here is one whose transfer is taken back: from the
-// giver where the walk stands to the receiver through whom the search came to that giver.
+// giver where the walk stands to the receiver through whom the search came to that giver. Loops over a walk
+// are `while let`, since the giver where it ends is read afterwards.
 #[derive(Drop)]
 pub(crate) struct Hops<'a> {
     way: &'a Way,

@@ -2,16 +2,8 @@ use Rattle.std.proofs.Common.{ap, ◌∙◌}
 use Rattle.groups.specs.Sums.{minus}
 use Rattle.planner.specs.Same.{state}
 use Rattle.planner.proofs.Amounts.{transfer_at, give_at, get_at}
-use Rattle.planner.proofs.Walks.{among_inside, receiver_inside, back_start, back_end, link_inside, fits_start, fits_next, fits_end}
+use Rattle.planner.proofs.Walks.{among_inside, receiver_inside, back_end, link_inside, fits_next, fits_end}
 use Rattle.planner.proofs.tables.Tables.fits.Goals as goal
-
-pub loop-link-init : goal.loop-link-init
-loop-link-init g c =
-    let t = c.args.self.now in
-    let way = c.args.way.now in
-    let h = c.hops-hops in
-    fits_start g.K.Amount.kind t.words (state t) way.marks way.receiver (g.K.Amount.kind.element c.args.d) h.result (receiver_inside t.words way c.requires.way)
-    (back_start t.words way c.requires.way h.result h.ensures)
 
 pub is_held-fits-requires-clause-amount : goal.is_held-fits-requires-clause-amount
 is_held-fits-requires-clause-amount g c =
