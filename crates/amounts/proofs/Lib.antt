@@ -1,2 +1,1 @@
 pub mod MoneyBelow
-pub mod DriftSums

@@ -68,6 +68,10 @@ module _ {V : Type 0} (k : Kind V) where
   abbrev pub Stands : Bool → k.group.Element → Option V → Type 0
   Stands test e r = MatchOption r (test ≡ false) (λ v. (test ≡ true) × StandsFor v e)
 
+  -- a number that stands for the element, and is a value exactly if the element is held; or nothing, of one that is not held
+  abbrev pub Reaches : k.group.Element → Option V → Type 0
+  Reaches e r = MatchOption r (k.held e ≡ false) (λ v. (k.element v ≡ e) × (k.value v ≡ k.held e))
+
   -- the answer of a sum
   abbrev pub Sum : V → V → Option V → Type 0
   Sum a b r = Stands (sound a b (k.group.plus (k.element a) (k.element b))) (k.group.plus (k.element a) (k.element b)) r

@@ -2,24 +2,29 @@ ghost use Rattle.std.specs.Prelude.{◌≡◌, ◌≤◌, true, length, if◌the
 ghost use Rattle.std.specs.Ordering.{is_gt};
 ghost use Rattle.refusals.specs.Judged.{judged, left};
 ghost use Rattle.groups.specs.Sums.{lesser as lesser_element};
-ghost use Rattle.amounts.specs.Kind.{Kind, Lawful, StandsFor, compared, Sum, Difference, text_refusal};
+ghost use Rattle.groups.specs.Sums.{minus};
+ghost use Rattle.amounts.specs.Kind.{Kind, Lawful, StandsFor, order, compared, Reaches, Sum, Difference, text_refusal};
 ghost use Rattle.decimals.specs.Texts.{over};
 
 use refusals::Refusal;
 use std::cmp::Ordering;
+
+// The limit of what is held, 10^18.
+pub(crate) const MOST: u64 = 1_000_000_000_000_000_000;
 
 // What a text needs at most.
 const TEXT_BUFFER: usize = 40;
 
 // A kind of amount. Its values are plain numbers that stand for elements of an ordered group; a number
 // that is no value may be handed to every call, and is treated as the call says.
-pub trait Amount: Copy {
+pub trait Amount: Copy + Ord {
     // The letter by which printed lines name the kind.
     const LETTER: u8;
 
     ghost kind: { Kind Self };
 
     // `LETTER`, for callers that have to know which letter it is.
+    // Each kind writes it: a ghost constant and a law that tie `LETTER` to `kind.letter` are no plainer than this line.
     fn line_letter() -> u8
         ensures { result ≡ kind.letter };
 
@@ -33,17 +38,43 @@ pub trait Amount: Copy {
 
     // Below, equal or above by the group's order; equal where one is no value.
     fn compare(self, other: Self) -> Ordering
-        ensures { result ≡ compared kind self other };
+        ensures { result ≡ compared kind self other }
+    {
+        if self.is_value() && other.is_value() {
+            self.cmp(&other)
+        } else {
+            Ordering::Equal
+        }
+    }
+
+    // The sum in the machine's numbers, a value only where it is held; nothing where they have no such number.
+    fn checked_add(self, other: Self) -> Option<Self>
+        ensures { Reaches kind (kind.group.plus (kind.element self) (kind.element other)) result };
+
+    // The same of the difference.
+    fn checked_sub(self, other: Self) -> Option<Self>
+        ensures { Reaches kind (minus kind.group (kind.element self) (kind.element other)) result };
 
     // The sum; nothing where one is no value or the sum is not held.
     fn sum(self, other: Self) -> Option<Self>
-        ensures { Sum kind self other result };
+        ensures { Sum kind self other result }
+    {
+        let values = self.is_value() && other.is_value();
+        self.checked_add(other)
+            .filter(|total| values && total.is_value())
+    }
 
     // The difference; nothing where one is no value or the difference is not held.
     fn difference(self, other: Self) -> Option<Self>
-        ensures { Difference kind self other result };
+        ensures { Difference kind self other result }
+    {
+        let values = self.is_value() && other.is_value();
+        self.checked_sub(other)
+            .filter(|rest| values && rest.is_value())
+    }
 
     // Writes the text of a value at the start of a buffer that has room for it, and answers its length.
+    // The buffer is the caller's, since there is no heap; `write!` into it may fail, which no clause rules out.
     fn write_text(self, buffer: &mut [u8]) -> usize
         requires value { kind.value self ≡ true }
         requires room { length (kind.text self) ≤ length buffer.old }
@@ -66,6 +97,9 @@ pub trait Amount: Copy {
     }
 
     ghost lawful: { Lawful kind };
+
+    // The numbers are in the order of the elements that they stand for.
+    ghost in_order: { (a b : Self) → Self.Ord.cmp a b ≡ order kind.group (kind.element a) (kind.element b) };
 }
 
 // The lesser of two amounts; the first where they are equal or one is no value.
@@ -73,8 +107,5 @@ pub fn lesser<K: Amount>(a: K, b: K) -> K
     ensures value { result ≡ (if is_gt (compared K.Amount.kind a b) then b else a) }
     ensures stands { K.Amount.kind.value a ≡ true → K.Amount.kind.value b ≡ true → StandsFor K.Amount.kind result (lesser_element K.Amount.kind.group (K.Amount.kind.element a) (K.Amount.kind.element b)) }
 {
-    match a.compare(b) {
-        Ordering::Greater => b,
-        _ => a,
-    }
+    if a.compare(b).is_gt() { b } else { a }
 }

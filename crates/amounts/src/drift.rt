@@ -1,18 +1,16 @@
 ghost use Rattle.std.specs.Prelude.{◌≡◌, pos};
 ghost use Rattle.amounts.specs.Kind.{Gap};
 ghost use Rattle.amounts.specs.Drifts.{drift, one};
-ghost use Rattle.amounts.specs.DriftLaws.{drift_lawful};
+ghost use Rattle.amounts.specs.DriftLaws.{drift_lawful, drift_in_order};
 
-use crate::amount::Amount;
-use decimals::{put, put_decimal, put_signed};
-use std::cmp::Ordering;
+use crate::amount::{Amount, MOST};
+use decimals::{put, put_number};
 
-const MOST: u64 = 1_000_000_000_000_000_000;
-
-const MOST_CHANGE: i64 = 1_000_000_000_000_000_000;
+// The same limit of a change, up or down. The value of a constant calls nothing, hence `as`.
+const MOST_CHANGE: i64 = MOST as i64;
 
 // A weight, 0 to 10^18, with its yearly change, -10^18 to 10^18.
-#[derive(Clone, Copy, PartialEq, Eq, Debug)]
+#[derive(Clone, Copy, PartialEq, Eq, PartialOrd, Ord, Debug)]
 pub struct Drift {
     pub weight: u64,
     pub change: i64,
@@ -24,6 +22,8 @@ impl Amount for Drift {
     ghost kind = { drift };
 
     ghost lawful = { drift_lawful };
+
+    ghost in_order = { drift_in_order };
 
     fn line_letter() -> u8 {
         Self::LETTER
@@ -37,51 +37,27 @@ impl Amount for Drift {
     }
 
     fn is_value(self) -> bool {
-        self.weight <= MOST && -MOST_CHANGE <= self.change && self.change <= MOST_CHANGE
+        self.weight <= MOST && (-MOST_CHANGE..=MOST_CHANGE).contains(&self.change)
     }
 
-    fn compare(self, other: Self) -> Ordering {
-        if !self.is_value() || !other.is_value() {
-            Ordering::Equal
-        } else if self.weight < other.weight {
-            Ordering::Less
-        } else if self.weight > other.weight {
-            Ordering::Greater
-        } else if self.change < other.change {
-            Ordering::Less
-        } else if self.change > other.change {
-            Ordering::Greater
-        } else {
-            Ordering::Equal
-        }
+    fn checked_add(self, other: Self) -> Option<Self> {
+        Some(Drift {
+            weight: self.weight.checked_add(other.weight)?,
+            change: self.change.checked_add(other.change)?,
+        })
     }
 
-    fn sum(self, other: Self) -> Option<Self> {
-        if !self.is_value() || !other.is_value() {
-            return None;
-        }
-        let total = Drift {
-            weight: self.weight + other.weight,
-            change: self.change + other.change,
-        };
-        if total.is_value() { Some(total) } else { None }
-    }
-
-    fn difference(self, other: Self) -> Option<Self> {
-        if !self.is_value() || !other.is_value() || self.weight < other.weight {
-            return None;
-        }
-        let rest = Drift {
-            weight: self.weight - other.weight,
-            change: self.change - other.change,
-        };
-        if rest.is_value() { Some(rest) } else { None }
+    fn checked_sub(self, other: Self) -> Option<Self> {
+        Some(Drift {
+            weight: self.weight.checked_sub(other.weight)?,
+            change: self.change.checked_sub(other.change)?,
+        })
     }
 
     fn write_text(self, buffer: &mut [u8]) -> usize {
-        let weight = put_decimal(buffer, 0, self.weight).unwrap();
+        let weight = put_number(buffer, 0, self.weight).unwrap();
         let space = put(buffer, weight, b" ").unwrap();
-        put_signed(buffer, space, self.change).unwrap()
+        put_number(buffer, space, self.change).unwrap()
     }
 }
 

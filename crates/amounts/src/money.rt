@@ -1,17 +1,14 @@
 ghost use Rattle.std.specs.Prelude.{◌≡◌, true, ℤ, int_le};
 ghost use Rattle.amounts.specs.Kind.{ClosedBelow};
 ghost use Rattle.amounts.specs.Moneys.{money};
-ghost use Rattle.amounts.specs.MoneyLaws.{money_lawful};
+ghost use Rattle.amounts.specs.MoneyLaws.{money_lawful, money_in_order};
 
-use crate::amount::Amount;
-use decimals::put_decimal;
-use std::cmp::Ordering;
-
-const MOST: u64 = 1_000_000_000_000_000_000;
+use crate::amount::{Amount, MOST};
+use decimals::put_number;
 
 // An amount of money in the smallest unit: 0 to 10^18.
 #[repr(C)]
-#[derive(Clone, Copy, PartialEq, Eq, Debug)]
+#[derive(Clone, Copy, PartialEq, Eq, PartialOrd, Ord, Debug)]
 pub struct Money(pub u64);
 
 impl Amount for Money {
@@ -20,6 +17,8 @@ impl Amount for Money {
     ghost kind = { money };
 
     ghost lawful = { money_lawful };
+
+    ghost in_order = { money_in_order };
 
     fn line_letter() -> u8 {
         Self::LETTER
@@ -33,34 +32,16 @@ impl Amount for Money {
         self.0 <= MOST
     }
 
-    fn compare(self, other: Self) -> Ordering {
-        if self.0 > MOST || other.0 > MOST || self.0 == other.0 {
-            Ordering::Equal
-        } else if self.0 < other.0 {
-            Ordering::Less
-        } else {
-            Ordering::Greater
-        }
+    fn checked_add(self, other: Self) -> Option<Self> {
+        self.0.checked_add(other.0).map(Money)
     }
 
-    fn sum(self, other: Self) -> Option<Self> {
-        if self.0 <= MOST && other.0 <= MOST && self.0 + other.0 <= MOST {
-            Some(Money(self.0 + other.0))
-        } else {
-            None
-        }
-    }
-
-    fn difference(self, other: Self) -> Option<Self> {
-        if self.0 <= MOST && other.0 <= self.0 {
-            Some(Money(self.0 - other.0))
-        } else {
-            None
-        }
+    fn checked_sub(self, other: Self) -> Option<Self> {
+        self.0.checked_sub(other.0).map(Money)
     }
 
     fn write_text(self, buffer: &mut [u8]) -> usize {
-        put_decimal(buffer, 0, self.0).unwrap()
+        put_number(buffer, 0, self.0).unwrap()
     }
 }
 

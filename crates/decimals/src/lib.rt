@@ -1,9 +1,11 @@
 // Texts and numbers in decimal digits, written into a caller's buffer.
 #![tactic(auto)]
 
-mod digits;
-mod spelling;
+mod numbers;
 mod texts;
 
-pub use spelling::{put_decimal, put_signed};
+pub use numbers::put_number;
 pub use texts::put;
+
+#[cfg(test)]
+mod tests;

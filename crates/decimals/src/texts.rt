@@ -4,14 +4,15 @@ use refusals::Refusal;
 
 // Writes a text into a buffer from a place on, and answers the place after it. Where it would pass
 // the buffer's end it is refused, and the buffer stays as found.
+// A place goes with the buffer, and no text grows: there is no heap to put it on.
 pub fn put(buffer: &mut [u8], at: usize, text: &[u8]) -> Result<usize, Refusal>
     ensures { Puts buffer.old at text.now result buffer.new }
 {
     let room = buffer.len();
-    if at > room || text.len() > room - at {
-        return Err(Refusal::Length);
-    }
-    let end = at + text.len();
+    let end = at
+        .checked_add(text.len())
+        .filter(|&end| end <= room)
+        .ok_or(Refusal::Length)?;
     buffer[at..end].copy_from_slice(text);
     Ok(end)
 }

@@ -3,7 +3,6 @@ ghost use Rattle.refusals.specs.Judged.{judged, left};
 ghost use Rattle.tables.specs.Rows.{row_at, with_row, row_refusal};
 ghost use Rattle.tables.specs.Valuation.{distance, rates_at, ValuedAt};
 
-use crate::falls::rates_after;
 use crate::row::{Rates, Row};
 use crate::table::Table;
 use crate::years::Years;
@@ -16,6 +15,7 @@ pub struct DatedTable {
     pub(crate) years: Years,
 }
 
+// `row` and `set_row` pass on to the table by hand: a `Deref` is no plainer, since it would lend all calls of an undated table.
 impl DatedTable {
     // The years by which the table is dated.
     pub fn years(&self) -> Years
@@ -55,6 +55,7 @@ impl DatedTable {
         table
     }
 
+    #[tactic(auto, using(crate::proofs::Entries::fit_row))]
     // The odds of an age at valuation and their yearly change; refused for an age without a row.
     pub fn rates(&self, age: usize) -> Result<Rates, Refusal>
         ensures value { result ≡ rates_at self.now.table.rows (distance self.now.years) age }
@@ -62,6 +63,6 @@ impl DatedTable {
         ensures only_distance_counts { (other : DatedTable) → other.table.rows ≡ self.now.table.rows → distance other.years ≡ distance self.now.years → rates_at other.table.rows (distance other.years) age ≡ result }
     {
         let row = self.row(age).ok_or(Refusal::AgeWithoutRow)?;
-        Ok(rates_after(row, self.years.valuation() - self.years.base()))
+        Ok(row.rates_after(self.years.distance()))
     }
 }

@@ -9,15 +9,11 @@ use refusals::Refusal;
 
 const AGES: usize = 121;
 
-const MOST_ODDS: u32 = 999_999;
-
-const MOST_FALL: u32 = 100_000;
-
 // A mortality table without a date: rows for ages 0 to 120. Its odds hold in a year that nobody has
 // said yet, so that no odds at valuation can be asked of it.
 #[derive(Drop)]
 pub struct Table {
-    rows: [Option<Row>; 121],
+    rows: [Option<Row>; AGES],
     ghost size: { length rows ≡ 121 },
     ghost fit: { rows_fit rows ≡ true },
 }
@@ -35,7 +31,7 @@ impl Table {
         ensures answer { result ≡ judged (row_refusal age row) tt }
         ensures after { self.new.rows ≡ left (row_refusal age row) self.old.rows (with_row self.old.rows age row) }
     {
-        if age >= AGES || row.odds < 1 || row.odds > MOST_ODDS || row.fall > MOST_FALL {
+        if age >= AGES || !row.is_in_range() {
             return Err(Refusal::RowNumber);
         }
         self.rows[age] = Some(row);
@@ -46,7 +42,7 @@ impl Table {
     pub fn row(&self, age: usize) -> Option<Row>
         ensures { result ≡ row_at self.now.rows age }
     {
-        if age < AGES { self.rows[age] } else { None }
+        self.rows.get(age).copied().flatten()
     }
 
     // The table dated by years that were tried.

@@ -1,4 +1,4 @@
-ghost use Rattle.std.specs.Prelude.{◌≡◌, ◌≤◌, true, false, MatchResult};
+ghost use Rattle.std.specs.Prelude.{◌≡◌, ◌-◌, ◌≤◌, true, false, MatchResult};
 ghost use Rattle.refusals.specs.declared.Refusal.TheVariants.{Year};
 ghost use Rattle.tables.specs.Ranges.{years_fit};
 
@@ -24,7 +24,9 @@ impl Years {
     pub fn new(base: u16, valuation: u16) -> Result<Years, Refusal>
         ensures { MatchResult result (λ y. (years_fit base valuation ≡ true) × (y.base ≡ base) × (y.valuation ≡ valuation)) (λ e. (years_fit base valuation ≡ false) × (e ≡ Year)) }
     {
-        if base < FIRST_BASE || base > LAST_BASE || valuation < base || valuation > base + LONGEST {
+        if !(FIRST_BASE..=LAST_BASE).contains(&base)
+            || !(base..=base + LONGEST).contains(&valuation)
+        {
             return Err(Refusal::Year);
         }
         Ok(Years { base, valuation })
@@ -42,5 +44,13 @@ impl Years {
         ensures { result ≡ self.now.valuation }
     {
         self.valuation
+    }
+
+    // The years between the two.
+    pub(crate) fn distance(&self) -> u16
+        ensures { result ≡ self.now.valuation - self.now.base }
+    {
+        let (base, valuation) = (self.base, self.valuation);
+        valuation - base
     }
 }
