@@ -1,10 +1,13 @@
 // Texts and numbers in decimal digits, written into a caller's buffer.
 #![tactic(auto)]
 
-mod numbers;
+mod digits;
+mod number;
+mod spelling;
 mod texts;
 
-pub use numbers::put_number;
+pub use number::Number;
+pub use spelling::put_number;
 pub use texts::put;
 
 #[cfg(test)]
