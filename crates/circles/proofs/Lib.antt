@@ -1,5 +1,5 @@
-pub mod Ghost
 pub mod Keeps
+pub mod Made
 pub mod Permissions
 pub mod Planning
 pub mod Products

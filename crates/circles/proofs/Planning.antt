@@ -1,5 +1,5 @@
 -- The plan call of a circle, from what the planner says of the run.
-use Rattle.std.proofs.Common.{◌≡◌, ℕ, zero, suc, ◌+◌, ◌-◌, ◌*◌, ◌/◌, ◌%◌, ◌<◌, ◌≤◌, Bool, true, false, cond, not, ◌&&◌, ltb, List, [], ◌∷◌, length, get_or, pos, nat_abs, sym, refl, ap, ◌∙◌, subst, arith}
+use Rattle.std.proofs.Common.{◌≡◌, ℕ, zero, suc, ◌+◌, ◌-◌, ◌*◌, ◌/◌, ◌%◌, ◌<◌, Bool, true, false, cond, not, ◌&&◌, ltb, List, [], ◌∷◌, length, get_or, pos, nat_abs, None, sym, refl, ap, ◌∙◌, subst, arith}
 use lib.Signed.{le_z}
 use Rattle.std.proofs.lemmas.Int.{ints}
 use Rattle.std.proofs.lemmas.List.FromFn.{fill_by_all}
@@ -8,7 +8,6 @@ use Rattle.groups.specs.Groups.{whole}
 use Rattle.flow.specs.Flow.{Fair}
 use Rattle.flow.specs.Outcomes.{End, planned as planned_end, blocked, outgrown}
 use Rattle.words.specs.Words.{bit}
-use Rattle.amounts.specs.Kind.{Kind}
 use Rattle.amounts.specs.Drifts.{drift}
 use Rattle.amounts.specs.declared.drift.Drift.{Drift}
 use Rattle.amounts.specs.Moneys.{money}
@@ -19,18 +18,15 @@ use Rattle.planner.specs.declared.answer.Answer.TheVariants.{Plan, Blocked, Outg
 use Rattle.planner.specs.Answers.{answer_by}
 use Rattle.circles.specs.Answered.{Answered}
 use Rattle.planner.specs.Tables.{row, table}
-use Rattle.circles.specs.declared.member.Member.{Member}
 use Rattle.circles.specs.declared.members.Members.{Members}
 use Rattle.circles.specs.declared.state.State.{State}
-use Rattle.circles.specs.Calls.{nothing, no_transfers, voided}
+use Rattle.circles.specs.Calls.{nothing, no_transfers, voided, transfer_refusal}
 use Rattle.circles.specs.Plans.{listed, table_of, run_of, is_plan, settled, planned, told_by, PlanMeans, TransferMeans}
 use Rattle.circles.specs.Sound.{plan_for, Sound}
-use Rattle.circles.specs.Tasks.{permits, posed_by, money_task, drift_task}
+use Rattle.circles.specs.Tasks.{permits, money_task, drift_task}
 use Rattle.circles.specs.Outlooks.{Foretells}
-use Rattle.circles.specs.Members.{member_at}
-use Rattle.circles.proofs.Keeps.{manned, void_sound}
+use Rattle.circles.proofs.Keeps.{void_sound, receiver_within}
 use Rattle.circles.proofs.Soon.{fair_later, outweighs_later, fails_later}
-use Rattle.circles.proofs.Weights.{weights_are}
 
 -- a list is the list of its entries
 listed_is : {V : Type 0} (f : ℕ → V) (xs : List V) (n : ℕ) (d : V) → length xs ≡ n → ((k : ℕ) → k < n → get_or xs k d ≡ f k) → xs ≡ listed n f
@@ -60,8 +56,8 @@ table_is xs e =
 -- whether a run ends with a plan, by its answer
 pub plan_is_plan : (e : End) (c steps : ℕ) → answer_by e c ≡ Plan steps → is_plan e ≡ true
 plan_is_plan planned_end c steps h = refl
-plan_is_plan (blocked S) c steps h = let z : ◌≡◌ {A = ℕ} 0 1 = cc in absurd (omega arith)
-plan_is_plan outgrown c steps h = let z : ◌≡◌ {A = ℕ} 0 1 = cc in absurd (omega arith)
+plan_is_plan (blocked S) c steps h = cc
+plan_is_plan outgrown c steps h = cc
 
 pub no_plan : (e : End) (c : ℕ) → ((steps : ℕ) → answer_by e c ≡ Plan steps → ⊥) → is_plan e ≡ false
 no_plan planned_end c h = absurd (h c refl)
@@ -94,8 +90,8 @@ module _ (s : State) (a : Answer) (xs gs rs : List Money) (size : length xs ≡ 
     where
       go : (b : Answer) → a ≡ b → settled (with_plan s.standing xs) b ≡ planned s
       go (Plan steps) e = planned_with steps e
-      go (Blocked steps members) e = planned_without (λ c q. let z : ◌≡◌ {A = ℕ} 0 1 = cc in omega arith)
-      go (Outgrown steps) e = planned_without (λ c q. let z : ◌≡◌ {A = ℕ} 0 1 = cc in omega arith)
+      go (Blocked steps members) e = planned_without (λ c q. cc)
+      go (Outgrown steps) e = planned_without (λ c q. cc)
 
   -- what the answer means, where the circle tells a fair plan if it is plan
   pub plan_means : (after : State) → ((steps : ℕ) → a ≡ Plan steps → Fair whole (money_task s.members) (told_by after)) → PlanMeans s.members a after
@@ -112,37 +108,19 @@ module _ (s : State) (a : Answer) (xs gs rs : List Money) (size : length xs ≡ 
 -- a circle whose transfers are a fair plan
 pub plan_sound : (s : State) (xs : List Money) → Sound s → length xs ≡ 4096 → Fair whole (money_task s.members) (table money xs)
     → Sound (record { number = s.number; members = s.members; total = s.total; standing = true; transfers = xs })
-plan_sound s xs h size fair = (
-  (h.0.0, size, h.0.2),
-  (
-    h.1.0,
-    (
-      h.1.1.0,
-      (
-        h.1.1.1.0,
-        (
-          h.1.1.1.1.0,
-          (
-            (λ p q. absurd (true≢false q)),
-            (
-              (λ j q. fair.forfeits j (ltb-true j s.members.count q)),
-              (
-                (λ i q. fair.gains i (ltb-true i s.members.count q)),
-                (
-                  (λ j i q.
-                      let both = and_parts (ltb j s.members.count && ltb i s.members.count) (not (permits s.members j i)) q in
-                      let n = and_parts (ltb j s.members.count) (ltb i s.members.count) both.0 in
-                      fair.off j i (ltb-true j s.members.count n.0) (ltb-true i s.members.count n.1) (not-true (permits s.members j i) both.1)),
-                  tt,
-                ),
-              ),
-            ),
-          ),
-        ),
-      ),
-    ),
-  ),
-)
+plan_sound s xs h size fair =
+    record {
+      manned = h.manned;
+      stakes = h.stakes;
+      shaped = size;
+      void = λ p q. absurd (true≢false q);
+      forfeits = λ j q. fair.forfeits j (ltb-true j s.members.count q);
+      gains = λ i q. fair.gains i (ltb-true i s.members.count q);
+      permitted = λ j i q.
+          let both = and_parts (ltb j s.members.count && ltb i s.members.count) (not (permits s.members j i)) q in
+          let n = and_parts (ltb j s.members.count) (ltb i s.members.count) both.0 in
+          fair.off j i (ltb-true j s.members.count n.0) (ltb-true i s.members.count n.1) (not-true (permits s.members j i) both.1);
+    }
 
 module _ (s : State) (a : Answer) (xs gs rs : List Money) (size : length xs ≡ 4096) (P : Answered money (money_task s.members) a xs gs rs) where
   abbrev left_by : State
@@ -154,20 +132,12 @@ module _ (s : State) (a : Answer) (xs gs rs : List Money) (size : length xs ≡ 
     where
       go : (b : Answer) → a ≡ b → Sound (settled left_by b)
       go (Plan steps) e = plan_sound s xs h size (P.means.plan steps e)
-      go (Blocked steps members) e = void_sound s s.members s.total (manned s h)
-      go (Outgrown steps) e = void_sound s s.members s.total (manned s h)
+      go (Blocked steps members) e = void_sound s s.members s.total h.manned h.stakes
+      go (Outgrown steps) e = void_sound s s.members s.total h.manned h.stakes
 
   -- and tells what the answer means
   pub settled_means : PlanMeans s.members a (settled left_by a)
   settled_means = plan_means s a xs gs rs size P (settled left_by a) (λ steps e. subst (λ b. Fair whole (money_task s.members) (told_by (settled left_by b))) (sym e) (P.means.plan steps e))
-
--- from the weights that the code asks with to those of the members
-pub posed_by_members : {V : Type 0} (k : Kind V) (f : Member → V) (d : V) (ms : Members) (ws : List V) → length ws ≡ 64 → ms.count ≤ 64
-    → ((j : ℕ) → j < ms.count → get_or ws j d ≡ f (member_at ms j)) → ((j : ℕ) → ms.count ≤ j → k.element (f (member_at ms j)) ≡ k.group.nil)
-    → (a : Answer) (xs gs rs : List V) → Answered k (posed_by ms (λ j. cond (ltb j ms.count) (row k ws j) k.group.nil)) a xs gs rs
-    → Answered k (posed_by ms (λ j. k.element (f (member_at ms j)))) a xs gs rs
-posed_by_members k f d ms ws size room are none a xs gs rs P =
-    subst (λ w. Answered k (posed_by ms w) a xs gs rs) (weights_are k f d ms ws (omega arith) are none) P
 
 -- what an outlook says, from what the planner says of weights with their changes
 pub foretold : (ms : Members) (a : Answer) (xs gs rs : List Drift) → Answered drift (drift_task ms) a xs gs rs → Foretells ms a (table drift xs)
@@ -191,16 +161,20 @@ told_fair s h e =
     let n = s.members.count in
     let for : (j : ℕ) → j < n → plan_for s j ≡ true = λ j l. and_from s.standing (ltb j n) e (lt-ltb j n l) in
     record {
-      least = λ j i p q. subst (λ z. le_z (pos 0) z ≡ true) (sym (entry_at s.transfers j i (omega (arith, h.0.2)))) (at_least (get_or s.transfers (64 * j + i) nothing).0);
-      off = λ j i p q none. h.1.1.1.1.1.1.1.1.0 j i (and_from (plan_for s j && plan_for s i) (not (permits s.members j i)) (and_from (plan_for s j) (plan_for s i) (for j p) (for i q)) (not_from_false (permits s.members j i) none));
-      forfeits = λ j p. h.1.1.1.1.1.1.0 j (for j p);
-      gains = λ i p. h.1.1.1.1.1.1.1.0 i (for i p);
+      least = λ j i p q. subst (λ z. le_z (pos 0) z ≡ true) (sym (entry_at s.transfers j i (omega (arith, h.manned.room)))) (at_least (get_or s.transfers (64 * j + i) nothing).0);
+      off = λ j i p q none. h.permitted j i (and_from (plan_for s j && plan_for s i) (not (permits s.members j i)) (and_from (plan_for s j) (plan_for s i) (for j p) (for i q)) (not_from_false (permits s.members j i) none));
+      forfeits = λ j p. h.forfeits j (for j p);
+      gains = λ i p. h.gains i (for i p);
     }
 
-pub transfer_means : (s : State) → Sound s → (giver receiver : ℕ) → receiver ≤ 64 → TransferMeans s giver receiver (get_or s.transfers (64 * (giver - 1) + (receiver - 1)) nothing)
-transfer_means s h giver receiver l =
-    record {
-      one = sym (entry_at s.transfers (giver - 1) (receiver - 1) (omega arith));
+pub transfer_means : (s : State) (giver receiver j i : ℕ) → Sound s → transfer_refusal s.members.count giver receiver ≡ None → j ≡ giver - 1 → i ≡ receiver - 1
+    → TransferMeans s giver receiver (get_or s.transfers (64 * j + i) nothing)
+transfer_means s giver receiver j i h told a b =
+    let l = receiver_within s.members.count giver receiver told in
+    let at : 64 * (giver - 1) + (receiver - 1) ≡ 64 * j + i = cc in
+    rw (← at)
+    (record {
+      one = sym (entry_at s.transfers (giver - 1) (receiver - 1) (omega (arith, h.manned.room)));
       fair = told_fair s h;
-      void = h.1.1.1.1.1.0 (64 * (giver - 1) + (receiver - 1));
-    }
+      void = h.void (64 * (giver - 1) + (receiver - 1));
+    })

@@ -1,9 +1,9 @@
 -- Weights with their yearly changes, seen one m-th of a year later, for all m from some m on.
-use Rattle.std.proofs.Common.{◌≡◌, ℕ, zero, suc, ◌+◌, ◌<◌, ◌≤◌, Bool, true, false, ◌⊎◌, ℤ, pos, negsuc, ◌+ℤ◌, ◌*ℤ◌, neg_ℤ, nat_abs, ◌≤ℤ◌, sym, refl, ap, ◌∙◌, subst, inl, inr, arith}
-use lib.IntN.{zero-*ℤ, suc_ℤ-*ℤ}
+use Rattle.std.proofs.Common.{◌≡◌, ℕ, zero, suc, ◌+◌, ◌<◌, ◌≤◌, Bool, true, false, ℤ, pos, negsuc, ◌+ℤ◌, ◌*ℤ◌, neg_ℤ, nat_abs, ◌≤ℤ◌, sym, refl, ap, ◌∙◌, subst, arith}
+use borrow.Author.Count.{below_more}
+use lib.IntN.{zero-*ℤ, *ℤ-zero, suc_ℤ-*ℤ}
 use lib.Signed.{le_z}
 use Rattle.std.proofs.lemmas.Int.{ints}
-use Rattle.std.proofs.lemmas.Bool.{cases_eq}
 use Rattle.std.proofs.lemmas.Bool.Decides.{nat_tests}
 use Rattle.groups.specs.Groups.{whole, Pair, pairs}
 use Rattle.groups.specs.Sums.{Le, Lt, sum_below, keep}
@@ -21,10 +21,6 @@ times_plus : (m : ℕ) (u v : ℤ) → pos m *ℤ (u +ℤ v) ≡ (pos m *ℤ u) 
 times_plus zero u v = omega (arith, ints, zero-*ℤ u, zero-*ℤ v, zero-*ℤ (u +ℤ v))
 times_plus (suc m) u v = omega (arith, ints, times_suc m u, times_suc m v, times_suc m (u +ℤ v), times_plus m u v)
 
-times_zero : (m : ℕ) → pos m *ℤ pos 0 ≡ pos 0
-times_zero zero = zero-*ℤ (pos 0)
-times_zero (suc m) = omega (arith, ints, times_suc m (pos 0), times_zero m)
-
 -- a larger factor by at least one gives more by at least m
 times_more : (m : ℕ) (u v : ℤ) → le_z v u ≡ false → ((pos m *ℤ u) +ℤ pos m) ≤ℤ (pos m *ℤ v)
 times_more zero u v h = omega (arith, ints, zero-*ℤ u, zero-*ℤ v)
@@ -36,7 +32,7 @@ after_plus : (m : ℕ) (a b : Pair whole whole) → after m ((pairs whole whole)
 after_plus m a b = omega (arith, ints, times_plus m a.upper b.upper)
 
 after_nil : (m : ℕ) → after m (pairs whole whole).nil ≡ pos 0
-after_nil m = omega (arith, ints, times_zero m)
+after_nil m = omega (arith, ints, *ℤ-zero (pos m))
 
 after_sum : (m n : ℕ) (f : ℕ → Pair whole whole) → after m (sum_below (pairs whole whole) n f) ≡ sum_below whole n (λ k. after m (f k))
 after_sum m zero f = after_nil m
@@ -80,7 +76,7 @@ after_least a h = (nat_abs a.lower, λ m l. go m l (le_z a.upper (pos 0)) refl)
     go : (m : ℕ) → nat_abs a.lower ≤ m → (t : Bool) → le_z a.upper (pos 0) ≡ t → le_z (pos 0) (after m a) ≡ true
     go m l false e =
         let p = times_more m (pos 0) a.upper e in
-        let z = times_zero m in
+        let z = *ℤ-zero (pos m) in
         let q = low_abs a.lower in
         let le : pos 0 ≤ℤ after m a = omega (arith, ints) in
         grind (arith, ints)
@@ -88,17 +84,10 @@ after_least a h = (nat_abs a.lower, λ m l. go m l (le_z a.upper (pos 0)) refl)
         let same : a.upper ≡ pos 0 = grind (arith, nat_tests, ints) in
         let low : le_z (pos 0) a.lower ≡ true = grind (arith, nat_tests, ints) in
         let times = ap (λ u. pos m *ℤ u) same in
-        let z = times_zero m in
+        let z = *ℤ-zero (pos m) in
         let least : pos 0 ≤ℤ a.lower = grind (arith, ints) in
         let le : pos 0 ≤ℤ after m a = omega (arith, ints) in
         grind (arith, ints)
-
-below_one : (n : ℕ) (P : ℕ → Type 0) → ((j : ℕ) → j < n → P j) → P n → (j : ℕ) → j < suc n → P j
-below_one n P rest last j l = go (cases_eq j n)
-  where
-    go : (j ≡ n) ⊎ (j ≡ n → ⊥) → P j
-    go (inl e) = subst P (sym e) last
-    go (inr e) = rest j (omega (arith, e))
 
 -- what holds of each number below n from some m on holds of all of them from some m on
 eventually_all : (n : ℕ) (P : ℕ → ℕ → Type 0) → ((j : ℕ) → j < n → Eventually (P j)) → Eventually (λ m. (j : ℕ) → j < n → P j m)
@@ -106,7 +95,7 @@ eventually_all zero P h = (0, λ m _ j l. absurd (let z : ⊥ = omega arith in z
 eventually_all (suc n) P h =
     let rest = eventually_all n P (λ j l. h j (omega arith)) in
     let last = h n (omega arith) in
-    (rest.0 + last.0, λ m l. below_one n (λ j. P j m) (rest.1 m (omega arith)) (last.1 m (omega arith)))
+    (rest.0 + last.0, λ m l j q. below_more (λ j. P j m) n (rest.1 m (omega arith)) (last.1 m (omega arith)) j (omega arith))
 
 -- a task one m-th of a year later
 abbrev pub later : ℕ → Task (Pair whole whole) → Task ℤ

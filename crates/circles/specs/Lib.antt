@@ -5,3 +5,5 @@ pub mod Answered
 pub mod Sound
 pub mod Plans
 pub mod Outlooks
+pub mod Weighing
+pub mod WeighingLaws

@@ -1,5 +1,6 @@
-ghost use Rattle.std.specs.Prelude.{◌≡◌, ◌+◌, ◌^◌, ◌<◌, length};
-ghost use Rattle.circles.specs.Calls.{admitted};
+ghost use Rattle.std.specs.Prelude.{◌≡◌, None};
+ghost use Rattle.circles.specs.Calls.{admit_refusal, admitted};
+ghost use Rattle.circles.specs.Sound.{Sound};
 
 use crate::member::Member;
 use crate::state::State;
@@ -8,10 +9,10 @@ use tables::Rates;
 impl State {
     // One member more; the standing plan is void.
     pub(crate) fn admit(&mut self, stake: u64, rates: Rates)
-        requires size { length self.old.members.list ≡ 64 }
-        requires room { self.old.members.count < 64 }
-        requires total { self.old.total + stake < 2 ^ 64 }
-        ensures { self.new ≡ admitted self.old stake rates }
+        requires sound { Sound self.old }
+        requires fits { admit_refusal self.old.total self.old.members.count stake rates ≡ None }
+        ensures after { self.new ≡ admitted self.old stake rates }
+        ensures sound { Sound self.new }
     {
         self.members.join(Member::newcomer(stake, rates));
         self.total += stake;

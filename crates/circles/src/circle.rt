@@ -1,15 +1,16 @@
-ghost use Rattle.std.specs.Prelude.{◌≡◌, ◌+◌, ◌<◌, true, false, length, IfOk, Some, None, MatchResult};
+ghost use Rattle.std.specs.Prelude.{◌≡◌, ◌+◌, true, false, length, IfOk, Some, None, MatchResult};
 ghost use Rattle.refusals.specs.Judged.{judged, left};
-ghost use Rattle.circles.specs.Calls.{opened, voided, admit_refusal, admitted, bar_refusal, barred, plan_refusal, outlook_refusal, balance_refusal, balance_told, transfer_refusal, transfer_told};
+ghost use Rattle.circles.specs.Calls.{opened, admit_refusal, admitted, bar_refusal, barred, plan_refusal, outlook_refusal, balance_refusal, balance_told, transfer_refusal, transfer_told};
 ghost use Rattle.circles.specs.Plans.{plan_answer, planned, PlanMeans, TransferMeans};
 ghost use Rattle.circles.specs.Outlooks.{Foretells};
 ghost use Rattle.circles.specs.Tasks.{drift_task};
 ghost use Rattle.amounts.specs.Drifts.{drift};
 ghost use Rattle.circles.specs.Answered.{Answered};
 ghost use Rattle.planner.specs.Tables.{table};
-ghost use Rattle.circles.specs.Members.{bar_put};
-ghost use Rattle.circles.specs.Sound.{Shaped, Whole, Rated, Settled, Bounded, Void, Forfeits, Gains, Permitted};
+ghost use Rattle.circles.specs.Sound.{Sound};
 
+use crate::ask::ask;
+use crate::members::MEMBERS;
 use crate::refuse;
 use crate::state::State;
 use amounts::{Drift, Money};
@@ -22,15 +23,7 @@ use tables::Rates;
 #[derive(Drop)]
 pub struct Circle {
     state: State,
-    ghost shaped: { Shaped state },
-    ghost whole: { Whole state },
-    ghost rated: { Rated state },
-    ghost settled: { Settled state },
-    ghost bounded: { Bounded state },
-    ghost void: { Void state },
-    ghost forfeits: { Forfeits state },
-    ghost gains: { Gains state },
-    ghost permitted: { Permitted state },
+    ghost sound: { Sound state },
 }
 
 impl Circle {
@@ -41,46 +34,6 @@ impl Circle {
         Circle {
             state: State::open(number),
         }
-    }
-
-    fn join(&mut self, stake: u64, rates: Rates)
-        requires { admit_refusal self.old.state.total self.old.state.members.count stake rates ≡ None }
-        ensures { self.new.state ≡ admitted self.old.state stake rates }
-    {
-        self.state.admit(stake, rates);
-    }
-
-    fn put_bar(&mut self, j: usize, i: usize, on: bool)
-        requires giver { j < 64 }
-        requires receiver { i < 64 }
-        ensures { self.new.state ≡ voided self.old.state (bar_put self.old.state.members j i on) self.old.state.total }
-    {
-        self.state.put_bar(j, i, on);
-    }
-
-    fn run(&mut self) -> Answer
-        requires { plan_refusal self.old.state.members.count ≡ None }
-        ensures answer { result ≡ plan_answer self.old.state.members }
-        ensures after { self.new.state ≡ planned self.old.state }
-        ensures means { PlanMeans self.old.state.members result self.new.state }
-    {
-        self.state.run_plan()
-    }
-
-    fn look(&self, transfers: &mut [Drift], to_give: &mut [Drift], to_get: &mut [Drift]) -> Answer
-        requires { outlook_refusal self.now.state.members.count (length transfers.old) (length to_give.old) (length to_get.old) ≡ None }
-        ensures planned { Answered drift (drift_task self.now.state.members) result transfers.new to_give.new to_get.new }
-        ensures foretells { Foretells self.now.state.members result (table drift transfers.new) }
-    {
-        self.state.run_outlook(transfers, to_give, to_get)
-    }
-
-    fn told(&self, giver: usize, receiver: usize) -> Money
-        requires { transfer_refusal self.now.state.members.count giver receiver ≡ None }
-        ensures value { result ≡ transfer_told self.now.state giver receiver }
-        ensures means { TransferMeans self.now.state giver receiver result }
-    {
-        self.state.transfers[64 * (giver - 1) + (receiver - 1)]
     }
 
     // The circle's number.
@@ -96,11 +49,19 @@ impl Circle {
         ensures after { self.new.state ≡ left (admit_refusal self.old.state.total self.old.state.members.count stake rates) self.old.state (admitted self.old.state stake rates) }
     {
         let members = self.state.members.count;
-        if let Some(refusal) = refuse::refuse_admission(self.state.total, members, stake, rates) {
-            return Err(refusal);
-        }
-        self.join(stake, rates);
+        refuse::admission(self.state.total, members, stake, rates)?;
+        self.state.admit(stake, rates);
         Ok(members + 1)
+    }
+
+    // Puts a bar on the pair of giver and receiver, or takes it away; the standing plan is void.
+    fn put_bar(&mut self, giver: usize, receiver: usize, on: bool) -> Result<(), Refusal>
+        ensures answer { result ≡ judged (bar_refusal self.old.state.members.count giver receiver) tt }
+        ensures after { self.new.state ≡ left (bar_refusal self.old.state.members.count giver receiver) self.old.state (barred self.old.state giver receiver on) }
+    {
+        let (j, i) = refuse::two(self.state.members.count, giver, receiver)?;
+        self.state.put_bar(j, i, on);
+        Ok(())
     }
 
     // Forbids the receiver to gain by the giver's death; the standing plan is void.
@@ -108,11 +69,7 @@ impl Circle {
         ensures answer { result ≡ judged (bar_refusal self.old.state.members.count giver receiver) tt }
         ensures after { self.new.state ≡ left (bar_refusal self.old.state.members.count giver receiver) self.old.state (barred self.old.state giver receiver true) }
     {
-        if let Some(refusal) = refuse::refuse_bar(self.state.members.count, giver, receiver) {
-            return Err(refusal);
-        }
-        self.put_bar(giver - 1, receiver - 1, true);
-        Ok(())
+        self.put_bar(giver, receiver, true)
     }
 
     // Allows the receiver to gain by the giver's death; the standing plan is void.
@@ -120,11 +77,7 @@ impl Circle {
         ensures answer { result ≡ judged (bar_refusal self.old.state.members.count giver receiver) tt }
         ensures after { self.new.state ≡ left (bar_refusal self.old.state.members.count giver receiver) self.old.state (barred self.old.state giver receiver false) }
     {
-        if let Some(refusal) = refuse::refuse_bar(self.state.members.count, giver, receiver) {
-            return Err(refusal);
-        }
-        self.put_bar(giver - 1, receiver - 1, false);
-        Ok(())
+        self.put_bar(giver, receiver, false)
     }
 
     // Looks for a fair plan of all admitted, by their balances, odds and bars of the moment. A plan stands from then
@@ -134,15 +87,14 @@ impl Circle {
         ensures after { self.new.state ≡ left (plan_refusal self.old.state.members.count) self.old.state (planned self.old.state) }
         ensures means { IfOk result (λ a. PlanMeans self.old.state.members a self.new.state) }
     {
-        if let Some(refusal) = refuse::refuse_plan(self.state.members.count) {
-            return Err(refusal);
-        }
-        Ok(self.run())
+        refuse::plan(self.state.members.count)?;
+        Ok(self.state.run_plan())
     }
 
     // Tells whether the circle stays plannable just after its date, by the weights with their yearly changes, and
     // leaves the plan's transfers, amounts still to give and amounts still to get in tables of the caller's. The
     // circle is not changed.
+    #[tactic(auto, using(crate::proofs::Planning::foretold))]
     pub fn outlook(
         &self,
         transfers: &mut [Drift],
@@ -153,35 +105,30 @@ impl Circle {
         ensures planned { IfOk result (λ a. Answered drift (drift_task self.now.state.members) a transfers.new to_give.new to_get.new) }
         ensures foretells { IfOk result (λ a. Foretells self.now.state.members a (table drift transfers.new)) }
     {
-        if let Some(refusal) = refuse::refuse_outlook(
+        refuse::outlook(
             self.state.members.count,
             transfers.len(),
             to_give.len(),
             to_get.len(),
-        ) {
-            return Err(refusal);
-        }
-        Ok(self.look(transfers, to_give, to_get))
+        )?;
+        Ok(ask(&self.state.members, transfers, to_give, to_get))
     }
 
     // The cents that a member has.
     pub fn balance(&self, member: usize) -> Result<u64, Refusal>
         ensures { result ≡ judged (balance_refusal self.now.state.members.count member) (balance_told self.now.state member) }
     {
-        if let Some(refusal) = refuse::refuse_balance(self.state.members.count, member) {
-            return Err(refusal);
-        }
-        Ok(self.state.members.list[member - 1].balance)
+        let k = refuse::member(self.state.members.count, member)?;
+        Ok(self.state.members.list[k].balance)
     }
 
     // What the receiver expects to gain by the giver's death under the standing plan, in millionths of a cent.
+    #[tactic(auto, using(crate::proofs::Planning::transfer_means))]
     pub fn transfer(&self, giver: usize, receiver: usize) -> Result<Money, Refusal>
         ensures answer { result ≡ judged (transfer_refusal self.now.state.members.count giver receiver) (transfer_told self.now.state giver receiver) }
         ensures means { IfOk result (TransferMeans self.now.state giver receiver) }
     {
-        if let Some(refusal) = refuse::refuse_transfer(self.state.members.count, giver, receiver) {
-            return Err(refusal);
-        }
-        Ok(self.told(giver, receiver))
+        let (j, i) = refuse::pair(self.state.members.count, giver, receiver)?;
+        Ok(self.state.transfers[MEMBERS * j + i])
     }
 }

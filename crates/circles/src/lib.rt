@@ -7,7 +7,6 @@ mod bars;
 mod circle;
 mod member;
 mod members;
-mod outlook;
 mod plan;
 mod refuse;
 mod state;

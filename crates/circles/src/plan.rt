@@ -3,8 +3,8 @@ ghost use Rattle.circles.specs.Plans.{plan_answer, settled, planned, PlanMeans};
 ghost use Rattle.circles.specs.Sound.{Sound};
 
 use crate::ask::ask;
+use crate::members::MEMBERS;
 use crate::state::State;
-use crate::weigh::money_weights;
 use amounts::Money;
 use planner::Answer;
 
@@ -28,12 +28,10 @@ impl State {
         ensures means { PlanMeans self.old.members result self.new }
         ensures sound { Sound self.new }
     {
-        let weights = money_weights(&self.members);
-        let mut to_give = [Money(0); 64];
-        let mut to_get = [Money(0); 64];
+        let mut to_give = [Money(0); MEMBERS];
+        let mut to_get = [Money(0); MEMBERS];
         let answer = ask(
             &self.members,
-            &weights,
             &mut self.transfers,
             &mut to_give,
             &mut to_get,

@@ -1,122 +1,92 @@
-ghost use Rattle.std.specs.Prelude.{◌≡◌, ◌≤◌, ◌&&◌};
-ghost use Rattle.circles.specs.Calls.{rates_fit, admit_refusal, is_member, bar_refusal, plan_refusal, outlook_refusal, balance_refusal, transfer_refusal};
+ghost use Rattle.std.specs.Prelude.{◌≡◌, ◌≤◌, ◌-◌, Some, None, MatchResult};
+ghost use Rattle.circles.specs.Calls.{rates_fit, admit_refusal, bar_refusal, plan_refusal, outlook_refusal, balance_refusal, transfer_refusal};
 
+use crate::members::MEMBERS;
+use crate::state::PAIRS;
 use refusals::Refusal;
 use tables::Rates;
 
 const MOST_CENTS: u64 = 1_000_000_000_000;
 
+// The limit of odds in crate tables too, which shows no constant of it: no caller of a table needs one.
 const MOST_ODDS: u32 = 999_999;
-
-const MEMBERS: usize = 64;
-
-const PAIRS: usize = 4096;
 
 // Whether odds, and odds plus change, are in range.
 fn rates_fit(rates: Rates) -> bool
     ensures { result ≡ rates_fit rates }
 {
-    let next = rates.odds as i64 + rates.change as i64;
-    (1 <= rates.odds && rates.odds <= MOST_ODDS) && (1 <= next && next <= MOST_ODDS as i64)
+    let next = i64::from(rates.odds) + i64::from(rates.change);
+    (1..=MOST_ODDS).contains(&rates.odds) && (1..=i64::from(MOST_ODDS)).contains(&next)
 }
 
-// Why an admission is refused, if it is.
-pub(crate) fn refuse_admission(
-    total: u64,
-    count: usize,
-    stake: u64,
-    rates: Rates,
-) -> Option<Refusal>
+// Refuses an admission that may not be.
+pub(crate) fn admission(total: u64, count: usize, stake: u64, rates: Rates) -> Result<(), Refusal>
     requires { total ≤ 1000000000000 }
-    ensures { result ≡ admit_refusal total count stake rates }
+    ensures { MatchResult result (λ _. admit_refusal total count stake rates ≡ None) (λ e. admit_refusal total count stake rates ≡ Some e) }
 {
-    if stake < 1 || stake > MOST_CENTS {
-        Some(Refusal::Stake)
+    if !(1..=MOST_CENTS).contains(&stake) {
+        Err(Refusal::Stake)
     } else if !rates_fit(rates) {
-        Some(Refusal::Rates)
+        Err(Refusal::Rates)
     } else if total + stake > MOST_CENTS {
-        Some(Refusal::TotalPassed)
+        Err(Refusal::TotalPassed)
     } else if count >= MEMBERS {
-        Some(Refusal::CircleFull)
+        Err(Refusal::CircleFull)
     } else {
-        None
+        Ok(())
     }
 }
 
-// Whether a member has the number.
-fn is_member(count: usize, member: usize) -> bool
-    ensures { result ≡ is_member count member }
+// The place of the member with a number; a number that nobody has is refused.
+pub(crate) fn member(count: usize, number: usize) -> Result<usize, Refusal>
+    ensures { MatchResult result (λ k. (balance_refusal count number ≡ None) × (k ≡ number - 1)) (λ e. balance_refusal count number ≡ Some e) }
 {
-    1 <= member && member <= count
-}
-
-// Whether both have numbers of members.
-fn are_members(count: usize, giver: usize, receiver: usize) -> bool
-    ensures { result ≡ (is_member count giver && is_member count receiver) }
-{
-    is_member(count, giver) && is_member(count, receiver)
-}
-
-// Why a bar or a lift is refused, if it is.
-pub(crate) fn refuse_bar(count: usize, giver: usize, receiver: usize) -> Option<Refusal>
-    ensures { result ≡ bar_refusal count giver receiver }
-{
-    if !are_members(count, giver, receiver) {
-        Some(Refusal::NotAdmitted)
-    } else if giver == receiver {
-        Some(Refusal::SameMember)
+    if 1 <= number && number <= count {
+        Ok(number - 1)
     } else {
-        None
+        Err(Refusal::NotAdmitted)
     }
 }
 
-// Why a plan is refused, if it is.
-pub(crate) fn refuse_plan(count: usize) -> Option<Refusal>
-    ensures { result ≡ plan_refusal count }
+// The places of giver and receiver.
+pub(crate) fn pair(count: usize, giver: usize, receiver: usize) -> Result<(usize, usize), Refusal>
+    ensures { MatchResult result (λ p. (transfer_refusal count giver receiver ≡ None) × (p ≡ (giver - 1, receiver - 1))) (λ e. transfer_refusal count giver receiver ≡ Some e) }
+{
+    Ok((member(count, giver)?, member(count, receiver)?))
+}
+
+// The places of giver and receiver of a bar, who are two members.
+pub(crate) fn two(count: usize, giver: usize, receiver: usize) -> Result<(usize, usize), Refusal>
+    ensures { MatchResult result (λ p. (bar_refusal count giver receiver ≡ None) × (p ≡ (giver - 1, receiver - 1))) (λ e. bar_refusal count giver receiver ≡ Some e) }
+{
+    let places = pair(count, giver, receiver)?;
+    if giver == receiver {
+        return Err(Refusal::SameMember);
+    }
+    Ok(places)
+}
+
+// Refuses a plan of nobody.
+pub(crate) fn plan(count: usize) -> Result<(), Refusal>
+    ensures { MatchResult result (λ _. plan_refusal count ≡ None) (λ e. plan_refusal count ≡ Some e) }
 {
     if count == 0 {
-        Some(Refusal::NobodyAdmitted)
-    } else {
-        None
+        return Err(Refusal::NobodyAdmitted);
     }
+    Ok(())
 }
 
-// Why an outlook is refused, if it is; the last three are the lengths of its tables.
-pub(crate) fn refuse_outlook(
+// Refuses an outlook of nobody, or in tables of other lengths than the outlook fills.
+pub(crate) fn outlook(
     count: usize,
     transfers: usize,
     gives: usize,
     gets: usize,
-) -> Option<Refusal>
-    ensures { result ≡ outlook_refusal count transfers gives gets }
+) -> Result<(), Refusal>
+    ensures { MatchResult result (λ _. outlook_refusal count transfers gives gets ≡ None) (λ e. outlook_refusal count transfers gives gets ≡ Some e) }
 {
     if transfers != PAIRS || gives != MEMBERS || gets != MEMBERS {
-        Some(Refusal::Length)
-    } else if count == 0 {
-        Some(Refusal::NobodyAdmitted)
-    } else {
-        None
+        return Err(Refusal::Length);
     }
-}
-
-// Why a balance is not told, if it is not.
-pub(crate) fn refuse_balance(count: usize, member: usize) -> Option<Refusal>
-    ensures { result ≡ balance_refusal count member }
-{
-    if is_member(count, member) {
-        None
-    } else {
-        Some(Refusal::NotAdmitted)
-    }
-}
-
-// Why a transfer is not told, if it is not.
-pub(crate) fn refuse_transfer(count: usize, giver: usize, receiver: usize) -> Option<Refusal>
-    ensures { result ≡ transfer_refusal count giver receiver }
-{
-    if are_members(count, giver, receiver) {
-        None
-    } else {
-        Some(Refusal::NotAdmitted)
-    }
+    plan(count)
 }

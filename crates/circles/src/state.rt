@@ -4,15 +4,21 @@ ghost use Rattle.circles.specs.Calls.{opened, voided};
 use crate::members::Members;
 use amounts::Money;
 
+// A place for each pair of members, as in the planner's tables.
+pub(crate) const PAIRS: usize = 4096;
+
 // What a circle holds, as plain records and tables; the circle keeps them sound. The total is that of all stakes
 // accepted. The transfer from giver j to receiver i, counted from 0, is at place 64 j + i.
+// The flag stands beside the table, and no Option around it: the planner fills the circle's own table, and nothing is copied.
+// No ghost field here or in Members: definitions make both as plain records, which with proofs in them would say no
+// more to a reader. What holds of them in every circle is one record each, Sound and Manned, and Circle carries it.
 #[derive(Drop)]
 pub struct State {
     pub number: u32,
     pub members: Members,
     pub total: u64,
     pub standing: bool,
-    pub transfers: [Money; 4096],
+    pub transfers: [Money; PAIRS],
 }
 
 impl State {
@@ -24,7 +30,7 @@ impl State {
             members: Members::none(),
             total: 0,
             standing: false,
-            transfers: [Money(0); 4096],
+            transfers: [Money(0); PAIRS],
         }
     }
 
@@ -33,6 +39,6 @@ impl State {
         ensures { self.new ≡ voided self.old self.old.members self.old.total }
     {
         self.standing = false;
-        self.transfers = [Money(0); 4096];
+        self.transfers = [Money(0); PAIRS];
     }
 }

@@ -16,6 +16,13 @@ fn rates(odds: u32, change: i32) -> Rates {
     Rates { odds, change }
 }
 
+// The outlook of a circle, which leaves its transfers.
+fn outlook(circle: &Circle, transfers: &mut [Drift]) -> Result<Answer, Refusal> {
+    let mut to_give = [NO_DRIFT; 64];
+    let mut to_get = [NO_DRIFT; 64];
+    circle.outlook(transfers, &mut to_give, &mut to_get)
+}
+
 // Two members of 200 cents at odds of 10,000 millionths, falling by 100 a year: both weigh 2,000,000.
 fn two() -> Result<Circle, Refusal> {
     let mut circle = Circle::new(7);
@@ -160,12 +167,11 @@ fn bar_blocks_and_lift_frees(rt: HostRuntime) -> Result<(), Fail> {
 fn nobody_to_plan_for(rt: HostRuntime) {
     let mut circle = Circle::new(0);
     let mut transfers = [NO_DRIFT; 4096];
-    let mut to_give = [NO_DRIFT; 64];
     let mut to_get = [NO_DRIFT; 64];
     let mut short = [NO_DRIFT; 63];
     assert_eq!(rt; circle.plan(), Err(Refusal::NobodyAdmitted));
     assert_eq!(rt;
-        circle.outlook(&mut transfers, &mut to_give, &mut to_get),
+        outlook(&circle, &mut transfers),
         Err(Refusal::NobodyAdmitted)
     );
     assert_eq!(rt;
@@ -179,10 +185,8 @@ fn outlook_in_the_callers_tables(rt: HostRuntime) -> Result<(), Fail> {
     let mut circle = two()?;
     circle.plan()?;
     let mut transfers = [NO_DRIFT; 4096];
-    let mut to_give = [NO_DRIFT; 64];
-    let mut to_get = [NO_DRIFT; 64];
     assert_eq!(rt;
-        circle.outlook(&mut transfers, &mut to_give, &mut to_get),
+        outlook(&circle, &mut transfers),
         Ok(Answer::Plan { steps: 2 })
     );
     // 200 cents times a change of -100
@@ -205,11 +209,9 @@ fn plan_that_does_not_last(rt: HostRuntime) -> Result<(), Fail> {
     circle.admit(200, rates(10_000, -50))?;
     assert_eq!(rt; circle.plan(), Ok(Answer::Plan { steps: 2 }));
     let mut transfers = [NO_DRIFT; 4096];
-    let mut to_give = [NO_DRIFT; 64];
-    let mut to_get = [NO_DRIFT; 64];
     // a moment later member 2 weighs more than member 1
     assert_eq!(rt;
-        circle.outlook(&mut transfers, &mut to_give, &mut to_get),
+        outlook(&circle, &mut transfers),
         Ok(Answer::Blocked {
             steps: 2,
             members: 0b10,

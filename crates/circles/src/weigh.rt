@@ -1,73 +1,82 @@
-ghost use Rattle.std.specs.Prelude.{◌≡◌, ℕ, ◌<◌, ◌≤◌, true, length, slice_index_or};
-ghost use Rattle.circles.specs.Calls.{nothing, rates_fit};
+ghost use Rattle.std.specs.Prelude.{◌≡◌, ℕ, ◌<◌, length, slice_index_or};
 ghost use Rattle.circles.specs.Members.{member_at};
-ghost use Rattle.circles.specs.Tasks.{change_in, money_of, drift_of, no_drift};
+ghost use Rattle.circles.specs.Sound.{Manned};
+ghost use Rattle.circles.specs.Tasks.{weight_in, change_in, money_of, drift_of};
+ghost use Rattle.circles.specs.Weighing.{Weighable, Weighing};
+ghost use Rattle.circles.specs.WeighingLaws.{money_weighing, drift_weighing};
 
 use crate::member::Member;
-use crate::members::Members;
-use amounts::{Drift, Money};
+use crate::members::{MEMBERS, Members};
+use amounts::{Amount, Drift, Money};
 
-// What a member weighs in money: its balance times its odds.
-fn weight_of(member: Member) -> Money
-    requires balance { member.balance ≤ 1000000000000 }
-    requires rates { rates_fit member.rates ≡ true }
-    ensures { result ≡ money_of member }
-{
-    Money(member.balance * member.rates.odds as u64)
+// A kind of amount in which members are weighed.
+pub(crate) trait Weigh: Amount {
+    ghost use Rattle.circles.specs.declared.member.Member.{Member};
+
+    ghost weight: { Member → Self };
+
+    // What a member weighs.
+    fn weigh(member: Member) -> Self
+        requires { Weighable member }
+        ensures { result ≡ weight member };
+
+    ghost weighing: { Weighing Self.kind weight };
 }
 
-// The weight of each member in money, and nothing where nobody is.
-pub(crate) fn money_weights(members: &Members) -> [Money; 64]
-    requires size { length members.now.list ≡ 64 }
-    requires room { members.now.count ≤ 64 }
-    requires balances { (k : ℕ) → (member_at members.now k).balance ≤ 1000000000000 }
-    requires rates { (k : ℕ) → k < members.now.count → rates_fit (member_at members.now k).rates ≡ true }
-    ensures size { length result ≡ 64 }
-    ensures weights { (j : ℕ) → j < members.now.count → slice_index_or result j nothing ≡ money_of (member_at members.now j) }
+// The weight of a member: its balance times its odds.
+fn weight_of(member: Member) -> u64
+    requires { Weighable member }
+    ensures { result ≡ weight_in member }
 {
-    let mut weights = [Money(0); 64];
-    for j in 0..members.count {
-        weights[j] = weight_of(members.list[j]);
+    member.balance * u64::from(member.rates.odds)
+}
+
+// In money a member weighs just that.
+impl Weigh for Money {
+    ghost weight = { money_of };
+
+    ghost weighing = { money_weighing };
+
+    fn weigh(member: Member) -> Money {
+        Money(weight_of(member))
     }
-    weights
 }
 
-// The yearly change of what a member weighs: its balance times the yearly change of its odds.
+// The yearly change of its weight: its balance times the yearly change of its odds.
+#[tactic(auto, using(crate::proofs::Products::product_held, crate::proofs::Products::product_value))]
 fn change_of(member: Member) -> i64
-    requires balance { member.balance ≤ 1000000000000 }
-    requires rates { rates_fit member.rates ≡ true }
+    requires { Weighable member }
     ensures { result ≡ change_in member }
 {
-    member.balance as i64 * member.rates.change as i64
+    // `as`, since no From leads from u64 to i64; that the balance fits is proved
+    member.balance as i64 * i64::from(member.rates.change)
 }
 
-// What a member weighs, with the yearly change of it.
-fn drift_of(member: Member) -> Drift
-    requires balance { member.balance ≤ 1000000000000 }
-    requires rates { rates_fit member.rates ≡ true }
-    ensures { result ≡ drift_of member }
-{
-    Drift {
-        weight: member.balance * member.rates.odds as u64,
-        change: change_of(member),
+// In drift it weighs the same, with the yearly change of it.
+impl Weigh for Drift {
+    ghost weight = { drift_of };
+
+    ghost weighing = { drift_weighing };
+
+    fn weigh(member: Member) -> Drift {
+        Drift {
+            weight: weight_of(member),
+            change: change_of(member),
+        }
     }
 }
 
-// The weight of each member with its yearly change, and none where nobody is.
-pub(crate) fn drift_weights(members: &Members) -> [Drift; 64]
-    requires size { length members.now.list ≡ 64 }
-    requires room { members.now.count ≤ 64 }
-    requires balances { (k : ℕ) → (member_at members.now k).balance ≤ 1000000000000 }
-    requires rates { (k : ℕ) → k < members.now.count → rates_fit (member_at members.now k).rates ≡ true }
+// The weight of each member, and nothing where nobody is.
+#[tactic(auto, using(crate::proofs::Weights::weighable))]
+pub(crate) fn weights<K: Weigh>(members: &Members) -> [K; MEMBERS]
+    requires { Manned members.now }
     ensures size { length result ≡ 64 }
-    ensures weights { (j : ℕ) → j < members.now.count → slice_index_or result j no_drift ≡ drift_of (member_at members.now j) }
+    ensures weights { (j : ℕ) (d : K) → j < members.now.count → slice_index_or result j d ≡ K.weight (member_at members.now j) }
 {
-    let mut weights = [Drift {
-        weight: 0,
-        change: 0,
-    }; 64];
-    for j in 0..members.count {
-        weights[j] = drift_of(members.list[j]);
+    // no array::from_fn: at a type parameter it leaves open that so many values fit in memory
+    let mut weights = [K::zero(); MEMBERS];
+    for (j, member) in members.list[..members.count].iter().enumerate() {
+        weights[j] = K::weigh(*member);
     }
     weights
 }

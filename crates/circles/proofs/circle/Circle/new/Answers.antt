@@ -1,6 +1,5 @@
-use Rattle.circles.proofs.Ghost.{fields}
 use Rattle.circles.proofs.Keeps.{open_kept}
 use Rattle.circles.proofs.circle.Circle.new.Goals as goal
 
 pub invariant_of-result : goal.invariant_of-result
-invariant_of-result c = fields c.open.result (open_kept c.open.ensures)
+invariant_of-result c = record { sound = open_kept c.open.ensures }

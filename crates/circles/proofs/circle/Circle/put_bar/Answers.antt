@@ -1,9 +1,12 @@
-use Rattle.std.proofs.Common.{sym, subst}
+use Rattle.std.proofs.Common.{◌<◌, sym, subst, arith}
+use Rattle.std.proofs.lemmas.Bool.Decides.{nat_tests}
 use Rattle.circles.specs.Sound.{Sound}
-use Rattle.circles.proofs.Ghost.{is, fields}
 use Rattle.circles.proofs.Keeps.{bar_sound}
 use Rattle.circles.proofs.circle.Circle.put_bar.Goals as goal
 
 pub invariant_of-self : goal.invariant_of-self
 invariant_of-self c =
-    fields c.put_bar.new.self (subst Sound (sym c.put_bar.ensures) (bar_sound c.args.self.now.state c.args.j c.args.i c.args.on c.requires.giver (is c.args.self.now)))
+    let s = c.args.self.now in
+    let room = s.sound.manned.room in
+    let giver : c.in_ok-j.j < 64 = grind (arith, nat_tests, c.in_ok-j.ensures, room) in
+    record { sound = subst Sound (sym c.put_bar.ensures) (bar_sound s.state c.in_ok-j.j c.in_ok-j.i c.args.on giver s.sound) }

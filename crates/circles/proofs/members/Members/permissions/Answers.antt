@@ -1,23 +1,19 @@
-use Rattle.std.proofs.Common.{◌^◌, ◌<◌, sym, refl, ◌∙◌, subst, arith}
-use Rattle.std.proofs.lemmas.List.{length-set}
+use Rattle.std.proofs.Common.{◌≡◌, ℕ, ◌<◌, ◌≤◌, sym, ap, ◌∙◌, ⊎_elim, rules, arith}
+use Rattle.std.proofs.lemmas.Bool.{cases_lt}
+use Rattle.std.proofs.lemmas.List.{get_or_past}
+use Rattle.words.specs.Words.{bit}
+use Rattle.words.proofs.Digits.{bit_zero}
 use Rattle.circles.specs.Tasks.{permits}
-use Rattle.circles.proofs.Permissions.{Filled, no_rows, filled_none, filled_more, filled_all, small_more}
+use Rattle.circles.proofs.Made.{entries}
+use Rattle.circles.proofs.Permissions.{no_giver}
 use Rattle.circles.proofs.members.Members.permissions.Goals as goal
 
-pub loop-j-init : goal.loop-j-init
-loop-j-init c = (refl, filled_none (permits c.args.self.now), λ a. subst (λ w. w < 2 ^ 64) (sym (no_rows a)) (omega arith))
-
-pub loop-j-preserved : goal.loop-j-preserved
-loop-j-preserved c = (
-  length-set c.loop-j.words c.loop-j.j c.permission.result ∙ c.loop-j.invariant.0,
-  filled_more (permits c.args.self.now) c.loop-j.words c.loop-j.j c.permission.result (omega (arith, c.loop-j.invariant.0)) c.loop-j.invariant.1 c.permission.ensures,
-  small_more c.loop-j.words c.loop-j.j c.permission.result (omega (arith, c.loop-j.invariant.0)) (omega arith) c.loop-j.invariant.2,
-)
-
-pub returns : goal.returns
-returns c =
-    record {
-      size = c.loop-j.invariant.0;
-      small = c.loop-j.invariant.2;
-      words = filled_all c.args.self.now c.requires.bounded c.loop-j.words (subst (Filled (permits c.args.self.now) c.loop-j.words) (omega arith) c.loop-j.invariant.1);
-    }
+pub returns-clause-words : goal.returns-clause-words
+returns-clause-words c j i =
+    let ms = c.args.self.now in
+    let ws = c.from_fn.result in
+    ⊎_elim
+    (λ (l : j < 64).
+    entries _ (λ k w. (i : ℕ) → bit w i ≡ permits ms k i) _ (λ k w q h. (search rules, search rules)) ws 0 0 64 c.from_fn.ensures.items.each j (omega arith) (omega arith) i)
+    (λ (l : 64 ≤ j). ap (λ w. bit w i) (get_or_past ws j 0 (omega arith)) ∙ bit_zero i ∙ sym (no_giver ms c.requires.bounded j i (omega arith)))
+    (cases_lt j 64)
