@@ -174,9 +174,7 @@ def lines():
 
 def table():
     for weights, may in circles():
-        n = len(weights)
-        pad = [0] * (6 - n)
-        print(f"    ({n}, {weights + pad}, {words(may) + pad}),")
+        print("    &[" + ", ".join(map(str, zip(weights, words(may)))) + "],")
 
 
 def check():

@@ -1,15 +1,13 @@
 // A worked report on a circle, from its first admission to its outlook.
 #![tactic(auto)]
 
-use anyhow::anyhow;
-
 mod circle;
-mod sample;
+
+use samples::sample_table;
+use tables::Years;
 
 fn run(rt: &impl Print) -> anyhow::Result<()> {
-    let Ok(table) = sample::table() else {
-        return Err(anyhow!("the years or a row of the sample table are refused"));
-    };
+    let table = sample_table().date(Years::new(2020, 2026)?);
     circle::report(rt, &table)
 }
 

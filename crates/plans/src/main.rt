@@ -1,15 +1,18 @@
 // Plans a table of small circles and a few large ones, and prints what each gives.
 #![tactic(auto)]
 
+ghost use Rattle.std.specs.Iterator.{IsFinite};
+
 mod circles;
 
-use amounts::{Amount, Drift, Money};
-use anyhow::anyhow;
+use amounts::{Amount, Money};
+use anyhow::Context;
 use planner::{Answer, plan};
 use refusals::Refusal;
-use std::io;
+use samples::Members;
+use std::{io, iter};
 
-// The five tables of a plan call.
+// The five tables of a plan call, as long as the call wants them: fixed memory, with no heap.
 #[derive(Drop)]
 struct Circle<K> {
     n: usize,
@@ -21,25 +24,26 @@ struct Circle<K> {
 }
 
 impl<K: Amount + Drop> Circle<K> {
-    // A circle of n members with weight zero, none of whom may receive.
-    fn new(n: usize) -> Circle<K> {
+    // A circle of up to 64 members, each with its weight and its permission word.
+    fn of<I: Iterator<Item = (K, u64)> + Drop>(members: I) -> Circle<K>
+        requires can { I.can_next members }
+        requires ends { IsFinite (I.remaining members) }
+    {
         let zero = K::zero();
-        Circle {
-            n,
+        let mut circle = Circle {
+            n: 0,
             weights: [zero; 64],
             words: [0; 64],
             transfers: [zero; 4096],
             to_give: [zero; 64],
             to_get: [zero; 64],
+        };
+        let rows = circle.weights.iter_mut().zip(circle.words.iter_mut());
+        for (n, ((weight, word), member)) in (1..=64).zip(rows.zip(members)) {
+            circle.n = n;
+            (*weight, *word) = member;
         }
-    }
-
-    // Sets the weight and the permission word of the member at a place counted from 0.
-    fn set(&mut self, place: usize, weight: K, word: u64) {
-        if place < 64 {
-            self.weights[place] = weight;
-            self.words[place] = word;
-        }
+        circle
     }
 
     fn plan(&mut self) -> Result<Answer, Refusal> {
@@ -59,50 +63,39 @@ fn print_answer(rt: &impl Print, answer: Answer) -> io::Result<()> {
         Answer::Plan { steps } => print!(rt; "plan in {steps} steps"),
         Answer::Outgrown { steps } => print!(rt; "outgrown in {steps} steps"),
         Answer::Blocked { steps, members } => {
-            print!(rt; "blocked in {steps} steps by")?;
-            for place in 0..64u32 {
-                if members >> place & 1 == 1 {
-                    print!(rt; " {}", place + 1)?;
-                }
-            }
-            Ok(())
+            print!(rt; "blocked in {steps} steps by{}", Members(members))
         }
     }
 }
 
 fn print_transfers(rt: &impl Print, circle: &Circle<Money>) -> io::Result<()> {
-    for j in 0..64usize {
-        for i in 0..64usize {
-            let cents = circle.transfers[64 * j + i].0;
-            if cents > 0 {
-                println!(rt; "  {} to {}: {cents}", j + 1, i + 1)?;
+    for (giver, row) in (1..=64u64).zip(circle.transfers.chunks(64)) {
+        for (receiver, amount) in (1..=64u64).zip(row) {
+            if amount.0 > 0 {
+                println!(rt; "  {giver} to {receiver}: {}", amount.0)?;
             }
         }
     }
     Ok(())
 }
 
+// Checksums are told modulo this prime.
+const PRIME: u64 = 1_000_000_007;
+
 // A number that tells tables of transfers apart.
 fn checksum(transfers: &[Money; 4096]) -> u64 {
-    let mut sum: u64 = 0;
-    for (place, amount) in transfers.iter().enumerate() {
-        let part = (place as u64 + 1) * (amount.0 % 1_000_000_007);
-        sum = (sum % 1_000_000_007 + part % 1_000_000_007) % 1_000_000_007;
-    }
-    sum
+    (1..=4096u64)
+        .zip(transfers)
+        .fold(0, |sum: u64, (place, amount)| {
+            (sum % PRIME + place % PRIME * (amount.0 % PRIME)) % PRIME
+        })
 }
 
 fn print_small(rt: &impl Print) -> anyhow::Result<()> {
-    let mut number = 0u32;
-    for (n, weights, words) in circles::CIRCLES {
-        number = number.saturating_add(1);
-        let mut circle = Circle::new(n);
-        for place in 0..6usize {
-            circle.set(place, Money(weights[place]), words[place]);
-        }
-        let Ok(answer) = circle.plan() else {
-            return Err(anyhow!("a circle of the table is refused"));
-        };
+    for (number, members) in (1..=u64::MAX).zip(circles::CIRCLES) {
+        let members = members.iter().map(|(weight, word)| (Money(*weight), *word));
+        let mut circle = Circle::of(members);
+        let answer = circle.plan().context("a circle of the table")?;
         print!(rt; "{number}: ")?;
         print_answer(rt, answer)?;
         println!(rt; "")?;
@@ -111,24 +104,31 @@ fn print_small(rt: &impl Print) -> anyhow::Result<()> {
     Ok(())
 }
 
-fn print_large(rt: &impl Print, name: &str, circle: &mut Circle<Money>) -> anyhow::Result<()> {
-    let Ok(answer) = circle.plan() else {
-        return Err(anyhow!("a large circle is refused"));
-    };
+// Plans a circle of members, each with its weight and its permission word.
+fn print_large<I: Iterator<Item = (Money, u64)> + Drop>(
+    rt: &impl Print,
+    name: &str,
+    members: I,
+) -> anyhow::Result<()>
+    requires can { I.can_next members }
+    requires ends { IsFinite (I.remaining members) }
+{
+    let mut circle = Circle::of(members);
+    let answer = circle.plan().context("a large circle")?;
     print!(rt; "{name}: ")?;
     print_answer(rt, answer)?;
     println!(rt; ", check {}", checksum(&circle.transfers))?;
     Ok(())
 }
 
-// The word of the member next to a place in a ring of 64.
-fn next(place: usize) -> u64 {
-    1u64.rotate_left(((place % 64 + 1) % 64) as u32)
+// The next after a place in a ring of 64.
+fn next(place: u32) -> u64 {
+    0b10u64.rotate_left(place)
 }
 
 // Everybody but the member at a place.
-fn others(place: usize) -> u64 {
-    !1u64.rotate_left((place % 64) as u32)
+fn others(place: u32) -> u64 {
+    (!0b1u64).rotate_left(place)
 }
 
 // Weights of nine digits, as good as at random.
@@ -139,66 +139,46 @@ fn nine_digits(state: &mut u64) -> u64 {
     100_000_000 + *state % 900_000_000
 }
 
-fn without_bars(ring: bool) -> Circle<Money> {
-    let mut circle = Circle::new(64);
-    let mut state = 88172645463325252u64;
-    for place in 0..64usize {
-        let word = if ring { next(place) } else { others(place) };
-        circle.set(place, Money(nine_digits(&mut state)), word);
-    }
-    circle
-}
-
-fn equal(two: bool) -> Circle<Money> {
-    let mut circle = Circle::new(64);
-    for place in 0..64usize {
-        let word = if two {
-            next(place) | next((place + 1) % 64)
-        } else {
-            next(place)
-        };
-        circle.set(place, Money(1_000), word);
-    }
-    circle
-}
-
-fn one_heavy(heavy: u64, alone: bool) -> Circle<Money> {
-    let mut circle = Circle::new(64);
-    circle.set(0, Money(heavy), others(0));
-    for place in 1..64usize {
-        let word = if alone { 1 } else { others(place) };
-        circle.set(place, Money(1_000), word);
-    }
-    circle
-}
+// Where the weights of nine digits begin.
+const SEED: u64 = 88172645463325252;
 
 fn run(rt: &impl Print) -> anyhow::Result<()> {
     print_small(rt)?;
-    print_large(rt, "64 members without bars", &mut without_bars(false))?;
+    let mut state = SEED;
+    print_large(
+        rt,
+        "64 members without bars",
+        (0..64).map(|place| (Money(nine_digits(&mut state)), others(place))),
+    )?;
+    let mut state = SEED;
     print_large(
         rt,
         "64 members who bar all but the next",
-        &mut without_bars(true),
+        (0..64).map(|place| (Money(nine_digits(&mut state)), next(place))),
     )?;
     print_large(
         rt,
         "64 equal members in a ring, to the next",
-        &mut equal(false),
+        (0..64).map(|place| (Money(1_000), next(place))),
     )?;
     print_large(
         rt,
         "64 equal members in a ring, to the next two",
-        &mut equal(true),
+        (0..64).map(|place| (Money(1_000), 0b110u64.rotate_left(place))),
     )?;
+    let heavy = (Money(1_000_000_000_000), others(0));
+    let light = (1..64).map(|place| (Money(1_000), others(place)));
     print_large(
         rt,
         "64 members, one too heavy",
-        &mut one_heavy(1_000_000_000_000, false),
+        iter::once(heavy).chain(light),
     )?;
+    let alone = (Money(63_000), others(0));
+    let rest = (1..64).map(|_| (Money(1_000), 0b1));
     print_large(
         rt,
         "64 members, one who must get from all others",
-        &mut one_heavy(63_000, true),
+        iter::once(alone).chain(rest),
     )
 }
 
@@ -209,15 +189,18 @@ fn main(rt: HostRuntime) -> anyhow::Result<()> {
 #[cfg(test)]
 mod tests {
     use super::*;
+    use amounts::Drift;
 
     const MOST_CHANGE: i64 = 1_000_000_000_000_000_000;
 
+    fn drift(weight: u64, change: i64) -> Drift {
+        Drift { weight, change }
+    }
+
     #[test]
     fn three_members_without_bars(rt: HostRuntime) {
-        let mut circle = Circle::new(3);
-        circle.set(0, Money(2), 0b110);
-        circle.set(1, Money(3), 0b101);
-        circle.set(2, Money(4), 0b011);
+        let members = [(Money(2), 0b110), (Money(3), 0b101), (Money(4), 0b011)];
+        let mut circle = Circle::of(members.into_iter());
         assert_eq!(rt; circle.plan(), Ok(Answer::Plan { steps: 6 }));
         assert_eq!(rt; circle.transfers[1], Money(1));
         assert_eq!(rt; circle.transfers[2], Money(1));
@@ -228,9 +211,8 @@ mod tests {
 
     #[test]
     fn one_of_two_blocks(rt: HostRuntime) {
-        let mut circle = Circle::new(2);
-        circle.set(0, Money(1), 0b10);
-        circle.set(1, Money(2), 0b01);
+        let members = [(Money(1), 0b10), (Money(2), 0b01)];
+        let mut circle = Circle::of(members.into_iter());
         assert_eq!(rt;
             circle.plan(),
             Ok(Answer::Blocked {
@@ -242,8 +224,7 @@ mod tests {
 
     #[test]
     fn one_member_alone(rt: HostRuntime) {
-        let mut circle = Circle::new(1);
-        circle.set(0, Money(5), 0);
+        let mut circle = Circle::of([(Money(5), 0)].into_iter());
         assert_eq!(rt;
             circle.plan(),
             Ok(Answer::Blocked {
@@ -255,37 +236,18 @@ mod tests {
 
     #[test]
     fn drifts_that_outgrow(rt: HostRuntime) {
-        let mut circle = Circle::new(2);
-        circle.set(
-            0,
-            Drift {
-                weight: 5,
-                change: MOST_CHANGE,
-            },
-            0b10,
-        );
-        circle.set(
-            1,
-            Drift {
-                weight: 5,
-                change: -MOST_CHANGE,
-            },
-            0b01,
-        );
+        let members = [
+            (drift(5, MOST_CHANGE), 0b10),
+            (drift(5, -MOST_CHANGE), 0b01),
+        ];
+        let mut circle = Circle::of(members.into_iter());
         assert_eq!(rt; circle.plan(), Ok(Answer::Outgrown { steps: 0 }));
-        assert_eq!(rt;
-            circle.transfers[1],
-            Drift {
-                weight: 0,
-                change: 0,
-            }
-        );
+        assert_eq!(rt; circle.transfers[1], drift(0, 0));
     }
 
     #[test]
     fn refusals_in_their_order(rt: HostRuntime) {
-        let mut circle = Circle::new(0);
-        circle.set(0, Money(1_000_000_000_000_000_001), 1);
+        let mut circle = Circle::of([(Money(1_000_000_000_000_000_001), 1)].into_iter());
         let short = [Money(0); 63];
         let answer = plan(
             1,
@@ -296,6 +258,7 @@ mod tests {
             &mut circle.to_get,
         );
         assert_eq!(rt; answer, Err(Refusal::Length));
+        circle.n = 0;
         assert_eq!(rt; circle.plan(), Err(Refusal::MemberRange));
         circle.n = 65;
         assert_eq!(rt; circle.plan(), Err(Refusal::MemberRange));
@@ -309,24 +272,9 @@ mod tests {
 
     #[test]
     fn drift_below_zero_is_refused(rt: HostRuntime) {
-        let mut circle = Circle::new(1);
-        circle.set(
-            0,
-            Drift {
-                weight: 0,
-                change: -1,
-            },
-            0,
-        );
+        let mut circle = Circle::of([(drift(0, -1), 0)].into_iter());
         assert_eq!(rt; circle.plan(), Err(Refusal::NotAnAmount));
-        circle.set(
-            0,
-            Drift {
-                weight: 0,
-                change: 1,
-            },
-            0,
-        );
+        let mut circle = Circle::of([(drift(0, 1), 0)].into_iter());
         assert_eq!(rt;
             circle.plan(),
             Ok(Answer::Blocked {

@@ -2,7 +2,6 @@
 #![tactic(auto)]
 
 mod planning;
-mod sample;
 mod valuation;
 mod weights;
 

@@ -1,24 +1,20 @@
 // A mortality table is built, dated and valued, age by age.
-use crate::sample;
-use anyhow::anyhow;
+use refusals::Refusal;
+use samples::sample_table;
 use std::io;
 use tables::{DatedTable, Years};
 
 const OLDEST: usize = 120;
 
 // Tries a pair of years and says how that went.
-fn try_years(rt: &impl Print, base: u16, valuation: u16) -> io::Result<Option<Years>> {
-    match Years::new(base, valuation) {
-        Ok(years) => {
-            println!(rt; "  base {base}, valuation {valuation}: accepted")?;
-            Ok(Some(years))
-        }
-        Err(refusal) => {
-            let number = refusal.number();
-            println!(rt; "  base {base}, valuation {valuation}: refused ({number})")?;
-            Ok(None)
-        }
+fn try_years(rt: &impl Print, base: u16, valuation: u16) -> io::Result<Result<Years, Refusal>> {
+    let years = Years::new(base, valuation);
+    print!(rt; "  base {base}, valuation {valuation}: ")?;
+    match years {
+        Ok(_) => println!(rt; "accepted")?,
+        Err(refusal) => println!(rt; "refused ({})", refusal.number())?,
     }
+    Ok(years)
 }
 
 fn print_heading(rt: &impl Print, years: Years) -> io::Result<()> {
@@ -51,13 +47,9 @@ fn print_rates(rt: &impl Print, table: &DatedTable) -> io::Result<u32> {
 // The part of the report on a table's valuation. It hands the table on, dated.
 pub(crate) fn report(rt: &impl Print) -> anyhow::Result<DatedTable> {
     println!(rt; "Years tried for the table")?;
-    try_years(rt, 2020, 2019)?;
-    let Some(years) = try_years(rt, 2020, 2026)? else {
-        return Err(anyhow!("the years of the sample table are refused"));
-    };
-    let Ok(table) = sample::table() else {
-        return Err(anyhow!("a row of the sample table is refused"));
-    };
+    let _ = try_years(rt, 2020, 2019)?;
+    let years = try_years(rt, 2020, 2026)??;
+    let table = sample_table();
     let table = table.date(years);
     println!(rt; "")?;
     print_heading(rt, table.years())?;

@@ -1,65 +1,69 @@
 // Two members are weighed: what each expects to forfeit in a year, and how that changes.
-use amounts::{Amount, Drift, Money, lesser};
-use anyhow::anyhow;
+use amounts::{Amount, Drift, lesser};
+use anyhow::Context;
+use samples::weight_of;
 use tables::{DatedTable, Rates};
 
-const FIRST: (usize, u64) = (65, 1_000_000);
-
-const SECOND: (usize, u64) = (70, 2_500_000);
-
-// What a stake forfeits by its odds, in cents and millionths.
-fn weight_of(stake: u64, rates: Rates) -> Money {
-    Money(stake.saturating_mul(u64::from(rates.odds)))
+// A member of the report.
+#[derive(Clone, Copy)]
+struct Member {
+    number: u8,
+    age: usize,
+    stake: u64,
 }
 
-// The weight with its yearly change.
-fn drift_of(stake: u64, rates: Rates) -> Drift {
-    let cents = i64::try_from(stake).unwrap_or(i64::MAX);
-    Drift {
-        weight: weight_of(stake, rates).0,
-        change: cents.saturating_mul(i64::from(rates.change)),
-    }
-}
+const FIRST: Member = Member {
+    number: 1,
+    age: 65,
+    stake: 1_000_000,
+};
+
+const SECOND: Member = Member {
+    number: 2,
+    age: 70,
+    stake: 2_500_000,
+};
 
 // Prints an amount's letter and text.
 fn print_amount<K: Amount>(rt: &impl Print, label: &str, amount: K) -> anyhow::Result<()> {
+    // an amount writes its text into its caller's buffer: fixed memory, with no heap
     let mut buffer = [0u8; 40];
-    let Ok(size) = amount.text(&mut buffer) else {
-        return Err(anyhow!("an amount of the report is no value"));
-    };
-    let Some(bytes) = buffer.get(0..size) else {
-        return Err(anyhow!("a text of the report is too long"));
-    };
-    let text = std::str::from_utf8(bytes)?;
+    let size = amount.text(&mut buffer)?;
+    let text = std::str::from_utf8(buffer.get(..size).context("a text that is too long")?)?;
     println!(rt; "  {label:<10} {} {text}", char::from(K::LETTER))?;
     Ok(())
 }
 
-fn print_member(
-    rt: &impl Print,
-    number: u8,
-    age: usize,
-    stake: u64,
-    rates: Rates,
-) -> anyhow::Result<()> {
-    println!(rt; "  member {number}, age {age}, stake {stake}")?;
-    print_amount(rt, "    weight", weight_of(stake, rates))?;
-    print_amount(rt, "    drift", drift_of(stake, rates))
+impl Member {
+    // The weight with its yearly change. The crate circles has its own for stakes within bounds, where no product is cut off.
+    fn drift(&self, rates: Rates) -> Drift {
+        let cents = i64::try_from(self.stake).unwrap_or(i64::MAX);
+        Drift {
+            weight: weight_of(self.stake, rates).0,
+            change: cents.saturating_mul(i64::from(rates.change)),
+        }
+    }
+
+    fn print(&self, rt: &impl Print, rates: Rates) -> anyhow::Result<()> {
+        println!(rt;
+            "  member {}, age {}, stake {}",
+            self.number, self.age, self.stake
+        )?;
+        print_amount(rt, "    weight", weight_of(self.stake, rates))?;
+        print_amount(rt, "    drift", self.drift(rates))
+    }
 }
 
 // The part of the report on amounts.
 pub(crate) fn report(rt: &impl Print, table: &DatedTable) -> anyhow::Result<()> {
-    let (Ok(first), Ok(second)) = (table.rates(FIRST.0), table.rates(SECOND.0)) else {
-        return Err(anyhow!("the sample table lacks an age of the report"));
-    };
+    let first = table.rates(FIRST.age)?;
+    let second = table.rates(SECOND.age)?;
     println!(rt; "Weights of two members: stake times odds, and with the yearly change")?;
-    print_member(rt, 1, FIRST.0, FIRST.1, first)?;
-    print_member(rt, 2, SECOND.0, SECOND.1, second)?;
-    let a = weight_of(FIRST.1, first);
-    let b = weight_of(SECOND.1, second);
+    FIRST.print(rt, first)?;
+    SECOND.print(rt, second)?;
+    let a = weight_of(FIRST.stake, first);
+    let b = weight_of(SECOND.stake, second);
     print_amount(rt, "lesser", lesser(a, b))?;
-    let Some(total) = a.sum(b) else {
-        return Err(anyhow!("the weights of the report are too large"));
-    };
-    print_amount(rt, "together", total)
+    let together = a.sum(b).context("weights that are too large together")?;
+    print_amount(rt, "together", together)
 }
