@@ -1,7 +1,6 @@
 -- Drift keeps the laws of a kind.
-use Rattle.std.specs.Prelude.{◌≡◌, ℕ, ◌+◌, ◌≤◌, Bool, true, false, cond, ◌&&◌, ◌||◌, ◌∷◌, length, ℤ, pos, negsuc, neg_ℤ, decimal, int_le, refl}
-use Rattle.std.specs.declared.cmp.Ordering.TheVariants.{Less, Equal, Greater}
-use Rattle.std.proofs.Common.{one-add, arith, ap, ap₂, subst, sym, ◌∙◌, length-append}
+use Rattle.std.specs.Prelude.{◌≡◌, ◌+◌, ◌≤◌, true, ◌&&◌, ◌∷◌, length, ℤ, pos, negsuc, neg_ℤ, decimal, int_le, refl}
+use Rattle.std.proofs.Common.{one-add, arith, ap, subst, sym, ◌∙◌, length-append}
 use Rattle.std.specs.Int.Signed.{mag}
 use Rattle.std.specs.Fmt.{signed_decimal}
 use Rattle.std.proofs.lemmas.Fmt.{length-decimal-le, length_signed_le}
@@ -11,8 +10,7 @@ use Rattle.groups.specs.Groups.{whole, Pair}
 use Rattle.groups.proofs.PairOrder.{pairs_ordered}
 use Rattle.groups.proofs.WholeOrder.{whole_ordered}
 use Rattle.amounts.specs.declared.drift.Drift.{Drift}
-use Rattle.std.specs.Ordering.{nat_cmp, int_cmp, ordering_then}
-use Rattle.amounts.specs.Kind.{Lawful, order}
+use Rattle.amounts.specs.Kind.{Lawful}
 use Rattle.amounts.specs.Drifts.{drift, drift_pair, held_drift}
 
 -- the parts of what is held are in range
@@ -74,26 +72,3 @@ drift_lawful =
       text_some = λ d h. subst (λ n. 1 ≤ n) (sym (text_length d)) (omega arith);
       text_most = text_most;
     }
-
--- of two pairs, told by which parts are at most the other's, the upper parts decide and then the lower
-decided : (u v x y : Bool) → u || v ≡ true
-    → cond (cond v (u && x) true) (cond (cond u (v && y) true) Equal Less) Greater ≡ ordering_then (cond u (cond v Equal Less) Greater) (cond x (cond y Equal Less) Greater)
-decided true true x y h = refl
-decided true false x y h = refl
-decided false true x y h = refl
-decided false false x y h = absurd (false≢true h)
-
-either : (a b : ℤ) → int_le a b || int_le b a ≡ true
-either a b = grind (arith, ints)
-
-weights : (m n : ℕ) → nat_cmp m n ≡ order whole (pos m) (pos n)
-weights m n = grind (arith, ints)
-
-changes : (a b : ℤ) → int_cmp a b ≡ order whole a b
-changes a b = grind (arith, ints)
-
--- drift is in the order of its parts, the weight first
-pub drift_in_order : (a b : Drift) → ordering_then (nat_cmp a.weight b.weight) (int_cmp a.change b.change) ≡ order drift.group (drift.element a) (drift.element b)
-drift_in_order a b =
-    ap₂ ordering_then (weights a.weight b.weight) (changes a.change b.change)
-    ∙ sym (decided (int_le (pos a.weight) (pos b.weight)) (int_le (pos b.weight) (pos a.weight)) (int_le a.change b.change) (int_le b.change a.change) (either (pos a.weight) (pos b.weight)))

@@ -6,8 +6,7 @@ use Rattle.std.proofs.lemmas.Int.{ints}
 use Rattle.std.proofs.lemmas.Bool.{and_from, and_parts, leb-true, le-leb}
 use Rattle.groups.proofs.WholeOrder.{whole_ordered}
 use Rattle.amounts.specs.declared.money.Money.{Money}
-use Rattle.std.specs.Ordering.{nat_cmp}
-use Rattle.amounts.specs.Kind.{Lawful, order}
+use Rattle.amounts.specs.Kind.{Lawful}
 use Rattle.amounts.specs.Moneys.{money}
 
 -- a value stands for an element that is held
@@ -40,7 +39,3 @@ money_lawful =
 
     below : (m : Money) → money.value m ≡ true → m.0 < 10 ^ 20
     below m h = omega (arith, small m h)
-
--- money is in the order of its numbers
-pub money_in_order : (a b : Money) → nat_cmp a.0 b.0 ≡ order money.group (money.element a) (money.element b)
-money_in_order a b = grind (arith, ints)

@@ -17,7 +17,7 @@ const TEXT_BUFFER: usize = 40;
 
 // A kind of amount. Its values are plain numbers that stand for elements of an ordered group; a number
 // that is no value may be handed to every call, and is treated as the call says.
-pub trait Amount: Copy + Ord {
+pub trait Amount: Copy {
     // The letter by which printed lines name the kind.
     const LETTER: u8;
 
@@ -36,12 +36,16 @@ pub trait Amount: Copy + Ord {
     fn is_value(self) -> bool
         ensures { result ≡ kind.value self };
 
+    // Below, equal or above by the order of the elements for which the numbers stand, values or not.
+    fn ranked(self, other: Self) -> Ordering
+        ensures { result ≡ order kind.group (kind.element self) (kind.element other) };
+
     // Below, equal or above by the group's order; equal where one is no value.
     fn compare(self, other: Self) -> Ordering
         ensures { result ≡ compared kind self other }
     {
         if self.is_value() && other.is_value() {
-            self.cmp(&other)
+            self.ranked(other)
         } else {
             Ordering::Equal
         }
@@ -97,9 +101,6 @@ pub trait Amount: Copy + Ord {
     }
 
     ghost lawful: { Lawful kind };
-
-    // The numbers are in the order of the elements that they stand for.
-    ghost in_order: { (a b : Self) → Self.Ord.cmp a b ≡ order kind.group (kind.element a) (kind.element b) };
 }
 
 // The lesser of two amounts; the first where they are equal or one is no value.

@@ -1,10 +1,11 @@
 ghost use Rattle.std.specs.Prelude.{◌≡◌, pos};
 ghost use Rattle.amounts.specs.Kind.{Gap};
 ghost use Rattle.amounts.specs.Drifts.{drift, one};
-ghost use Rattle.amounts.specs.DriftLaws.{drift_lawful, drift_in_order};
+ghost use Rattle.amounts.specs.DriftLaws.{drift_lawful};
 
 use crate::amount::{Amount, MOST};
 use decimals::{put, put_number};
+use std::cmp::Ordering;
 
 // The same limit of a change, up or down. The value of a constant calls nothing, hence `as`.
 const MOST_CHANGE: i64 = MOST as i64;
@@ -23,8 +24,6 @@ impl Amount for Drift {
 
     ghost lawful = { drift_lawful };
 
-    ghost in_order = { drift_in_order };
-
     fn line_letter() -> u8 {
         Self::LETTER
     }
@@ -38,6 +37,11 @@ impl Amount for Drift {
 
     fn is_value(self) -> bool {
         self.weight <= MOST && (-MOST_CHANGE..=MOST_CHANGE).contains(&self.change)
+    }
+
+    // By the derived order of the fields.
+    fn ranked(self, other: Self) -> Ordering {
+        self.cmp(&other)
     }
 
     fn checked_add(self, other: Self) -> Option<Self> {

@@ -1,10 +1,11 @@
 ghost use Rattle.std.specs.Prelude.{◌≡◌, true, ℤ, int_le};
 ghost use Rattle.amounts.specs.Kind.{ClosedBelow};
 ghost use Rattle.amounts.specs.Moneys.{money};
-ghost use Rattle.amounts.specs.MoneyLaws.{money_lawful, money_in_order};
+ghost use Rattle.amounts.specs.MoneyLaws.{money_lawful};
 
 use crate::amount::{Amount, MOST};
 use decimals::put_number;
+use std::cmp::Ordering;
 
 // An amount of money in the smallest unit: 0 to 10^18.
 #[repr(C)]
@@ -18,8 +19,6 @@ impl Amount for Money {
 
     ghost lawful = { money_lawful };
 
-    ghost in_order = { money_in_order };
-
     fn line_letter() -> u8 {
         Self::LETTER
     }
@@ -30,6 +29,11 @@ impl Amount for Money {
 
     fn is_value(self) -> bool {
         self.0 <= MOST
+    }
+
+    // By the derived order of the fields.
+    fn ranked(self, other: Self) -> Ordering {
+        self.cmp(&other)
     }
 
     fn checked_add(self, other: Self) -> Option<Self> {
