@@ -1,6 +1,6 @@
 -- Each call that is not refused keeps what holds of every circle.
 use Rattle.std.proofs.Common.{◌≡◌, ℕ, ◌+◌, ◌<◌, ◌≤◌, Bool, true, false, ◌≢◌, List, length, get_or, set, replicate, None, sum_by, sym, refl, ap, ◌∙◌, subst, ⊎_elim, arith}
-use Rattle.std.proofs.lemmas.List.{length-set, get_or-set_same, get_or-set_other, get_or_past, get_or-replicate}
+use Rattle.std.proofs.lemmas.List.{length-replicate, length-set, get_or-set_same, get_or-set_other, get_or_past, get_or-replicate}
 use Rattle.std.proofs.lemmas.List.Sums.{sum_by-set}
 use Rattle.std.proofs.lemmas.Bool.{cases_eq, cases_lt, false≢true, true≢false}
 use Rattle.std.proofs.lemmas.Bool.Decides.{nat_tests}
@@ -10,7 +10,7 @@ use Rattle.circles.specs.declared.member.Member.{Member}
 use Rattle.circles.specs.declared.members.Members.{Members}
 use Rattle.circles.specs.declared.state.State.{State}
 use Rattle.circles.specs.Members.{blank, nobody, member_at, newcomer, joined, with_bar, bar_put}
-use Rattle.circles.specs.Calls.{nothing, no_transfers, opened, voided, rates_fit, admit_refusal, admitted, transfer_refusal}
+use Rattle.circles.specs.Calls.{nothing, opened, voided, rates_fit, admit_refusal, admitted, transfer_refusal}
 use Rattle.circles.specs.Sound.{Manned, Sound}
 
 -- one record changed
@@ -21,11 +21,9 @@ each_set P xs j m lt new old k =
     (λ ne. subst (P k) (sym (get_or-set_other xs j k m blank ne)) (old k ne))
     (cases_eq k j)
 
-blanks : (k : ℕ) → get_or (replicate 64 blank) k blank ≡ blank
-blanks k = ⊎_elim (λ lt. get_or-replicate 64 k blank blank lt) (λ le. get_or_past (replicate 64 blank) k blank le) (cases_lt k 64)
-
-pub zeros : (p : ℕ) → get_or no_transfers p nothing ≡ nothing
-zeros p = ⊎_elim (λ lt. get_or-replicate 4096 p nothing nothing lt) (λ le. get_or_past no_transfers p nothing le) (cases_lt p 4096)
+-- a table of equal entries, which count past its end too
+alike : {V : Type 0} (n : ℕ) (v : V) (k : ℕ) → get_or (replicate n v) k v ≡ v
+alike n v k = ⊎_elim (λ lt. get_or-replicate n k v v lt) (λ le. get_or_past (replicate n v) k v (omega (arith, le, length-replicate n v))) (cases_lt k n)
 
 -- a circle without a plan: there is nothing to show of plans
 pub void_sound : (s : State) (ms : Members) (total : ℕ) → Manned ms → total ≡ sum_by (λ m. m.balance) ms.list → Sound (voided s ms total)
@@ -34,7 +32,7 @@ void_sound s ms total manned stakes =
       manned = manned;
       stakes = stakes;
       shaped = refl;
-      void = λ p _. ap (λ (m : Money). m.0) (zeros p);
+      void = λ p _. ap (λ (m : Money). m.0) (alike 4096 nothing p);
       forfeits = λ j q. absurd (false≢true q);
       gains = λ i q. absurd (false≢true q);
       permitted = λ j i q. absurd (false≢true q);
@@ -42,7 +40,7 @@ void_sound s ms total manned stakes =
 
 open_sound : (number : ℕ) → Sound (opened number)
 open_sound number =
-    let b : (P : Member → Type 0) → P blank → (k : ℕ) → P (get_or (replicate 64 blank) k blank) = λ P p k. subst P (sym (blanks k)) p in
+    let b : (P : Member → Type 0) → P blank → (k : ℕ) → P (get_or (replicate 64 blank) k blank) = λ P p k. subst P (sym (alike 64 blank k)) p in
     void_sound (opened number) nobody 0
     record {
       size = refl;
@@ -50,7 +48,7 @@ open_sound number =
       most = omega arith;
       rated = λ k q. absurd (let z : ⊥ = omega arith in z);
       settled = b (λ m. m.alive ≡ false → m.balance ≡ 0) (λ _. refl);
-      bounded = λ k _. ap (λ (m : Member). m.alive) (blanks k);
+      bounded = λ k _. ap (λ (m : Member). m.alive) (alike 64 blank k);
     }
     refl
 

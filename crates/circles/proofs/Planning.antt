@@ -39,32 +39,54 @@ row_money [] p = refl
 row_money (x ∷ xs) zero = refl
 row_money (x ∷ xs) (suc p) = row_money xs p
 
-entry_money : (xs : List Money) (p : ℕ) → table money xs (p / 64) (p % 64) ≡ pos (get_or xs p nothing).0
+entry_at : (xs : List Money) (j i : ℕ) → i < 64 → table money xs j i ≡ pos (get_or xs (64 * j + i) nothing).0
 unfolding table
+entry_at xs j i l = cond-true (ltb i 64) (row money xs (64 * j + i)) (pos 0) (lt-ltb i 64 l) ∙ row_money xs (64 * j + i)
+
+entry_money : (xs : List Money) (p : ℕ) → table money xs (p / 64) (p % 64) ≡ pos (get_or xs p nothing).0
 entry_money xs p =
     let e : 64 * (p / 64) + p % 64 ≡ p = omega arith in
-    cond-true (ltb (p % 64) 64) (row money xs (64 * (p / 64) + p % 64)) (pos 0) (lt-ltb (p % 64) 64 (omega arith))
-    ∙ ap (row money xs) e
-    ∙ row_money xs p
+    entry_at xs (p / 64) (p % 64) (omega arith) ∙ ap (λ q. pos (get_or xs q nothing).0) e
 
 -- a table of transfers is that of its amounts by giver and receiver
-pub table_is : (xs : List Money) → length xs ≡ 4096 → xs ≡ table_of (table money xs)
+table_is : (xs : List Money) → length xs ≡ 4096 → xs ≡ table_of (table money xs)
 table_is xs e =
     listed_is (λ p. record { 0 = nat_abs (table money xs (p / 64) (p % 64)) }) xs 4096 nothing e
     (λ p l. ap (λ (v : ℕ). record { 0 = v }) (sym (ap nat_abs (entry_money xs p))))
 
 -- whether a run ends with a plan, by its answer
-pub plan_is_plan : (e : End) (c steps : ℕ) → answer_by e c ≡ Plan steps → is_plan e ≡ true
+plan_is_plan : (e : End) (c steps : ℕ) → answer_by e c ≡ Plan steps → is_plan e ≡ true
 plan_is_plan planned_end c steps h = refl
 plan_is_plan (blocked S) c steps h = cc
 plan_is_plan outgrown c steps h = cc
 
-pub no_plan : (e : End) (c : ℕ) → ((steps : ℕ) → answer_by e c ≡ Plan steps → ⊥) → is_plan e ≡ false
+no_plan : (e : End) (c : ℕ) → ((steps : ℕ) → answer_by e c ≡ Plan steps → ⊥) → is_plan e ≡ false
 no_plan planned_end c h = absurd (h c refl)
 no_plan (blocked S) c h = refl
 no_plan outgrown c h = refl
 
+-- a circle whose transfers are a fair plan
+plan_sound : (s : State) (xs : List Money) → Sound s → length xs ≡ 4096 → Fair whole (money_task s.members) (table money xs)
+    → Sound (record { number = s.number; members = s.members; total = s.total; standing = true; transfers = xs })
+plan_sound s xs h size fair =
+    record {
+      manned = h.manned;
+      stakes = h.stakes;
+      shaped = size;
+      void = λ p q. absurd (true≢false q);
+      forfeits = λ j q. fair.forfeits j (ltb-true j s.members.count q);
+      gains = λ i q. fair.gains i (ltb-true i s.members.count q);
+      permitted = λ j i q.
+          let both = and_parts (ltb j s.members.count && ltb i s.members.count) (not (permits s.members j i)) q in
+          let n = and_parts (ltb j s.members.count) (ltb i s.members.count) both.0 in
+          fair.off j i (ltb-true j s.members.count n.0) (ltb-true i s.members.count n.1) (not-true (permits s.members j i) both.1);
+    }
+
 module _ (s : State) (a : Answer) (xs gs rs : List Money) (size : length xs ≡ 4096) (P : Answered money (money_task s.members) a xs gs rs) where
+  -- what the run leaves, before the answer is settled
+  abbrev left_by : State
+  left_by = record { number = s.number; members = s.members; total = s.total; standing = s.standing; transfers = xs }
+
   -- the run's transfers are in the table
   transfers_are : xs ≡ table_of (run_of s.members).state.x
   transfers_are = table_is xs size ∙ ap (λ st. table_of st.x) P.ran.state
@@ -84,17 +106,18 @@ module _ (s : State) (a : Answer) (xs gs rs : List Money) (size : length xs ≡ 
       let end : is_plan (run_of s.members).end ≡ false = no_plan (run_of s.members).end (run_of s.members).steps (λ steps e. none steps (P.ran.answer ∙ e)) in
       subst (λ b. with_plan false no_transfers ≡ with_plan b (cond b (table_of (run_of s.members).state.x) no_transfers)) (sym end) refl
 
-  pub planned_settled : settled (record { number = s.number; members = s.members; total = s.total; standing = s.standing; transfers = xs }) a ≡ planned s
+  -- settled it is what the definition of the call says
+  pub planned_settled : settled left_by a ≡ planned s
   unfolding with_plan
   planned_settled = go a refl
     where
-      go : (b : Answer) → a ≡ b → settled (with_plan s.standing xs) b ≡ planned s
+      go : (b : Answer) → a ≡ b → settled left_by b ≡ planned s
       go (Plan steps) e = planned_with steps e
       go (Blocked steps members) e = planned_without (λ c q. cc)
       go (Outgrown steps) e = planned_without (λ c q. cc)
 
   -- what the answer means, where the circle tells a fair plan if it is plan
-  pub plan_means : (after : State) → ((steps : ℕ) → a ≡ Plan steps → Fair whole (money_task s.members) (told_by after)) → PlanMeans s.members a after
+  plan_means : (after : State) → ((steps : ℕ) → a ≡ Plan steps → Fair whole (money_task s.members) (told_by after)) → PlanMeans s.members a after
   plan_means after fair =
       record {
         few = P.means.few;
@@ -104,27 +127,6 @@ module _ (s : State) (a : Answer) (xs gs rs : List Money) (size : length xs ≡ 
         no_plan = P.means.no_plan;
         never_outgrown = P.means.closed_below money_closed_below;
       }
-
--- a circle whose transfers are a fair plan
-pub plan_sound : (s : State) (xs : List Money) → Sound s → length xs ≡ 4096 → Fair whole (money_task s.members) (table money xs)
-    → Sound (record { number = s.number; members = s.members; total = s.total; standing = true; transfers = xs })
-plan_sound s xs h size fair =
-    record {
-      manned = h.manned;
-      stakes = h.stakes;
-      shaped = size;
-      void = λ p q. absurd (true≢false q);
-      forfeits = λ j q. fair.forfeits j (ltb-true j s.members.count q);
-      gains = λ i q. fair.gains i (ltb-true i s.members.count q);
-      permitted = λ j i q.
-          let both = and_parts (ltb j s.members.count && ltb i s.members.count) (not (permits s.members j i)) q in
-          let n = and_parts (ltb j s.members.count) (ltb i s.members.count) both.0 in
-          fair.off j i (ltb-true j s.members.count n.0) (ltb-true i s.members.count n.1) (not-true (permits s.members j i) both.1);
-    }
-
-module _ (s : State) (a : Answer) (xs gs rs : List Money) (size : length xs ≡ 4096) (P : Answered money (money_task s.members) a xs gs rs) where
-  abbrev left_by : State
-  left_by = record { number = s.number; members = s.members; total = s.total; standing = s.standing; transfers = xs }
 
   -- the circle that is left is sound
   pub settled_sound : Sound s → Sound (settled left_by a)
@@ -137,7 +139,7 @@ module _ (s : State) (a : Answer) (xs gs rs : List Money) (size : length xs ≡ 
 
   -- and tells what the answer means
   pub settled_means : PlanMeans s.members a (settled left_by a)
-  settled_means = plan_means s a xs gs rs size P (settled left_by a) (λ steps e. subst (λ b. Fair whole (money_task s.members) (told_by (settled left_by b))) (sym e) (P.means.plan steps e))
+  settled_means = plan_means (settled left_by a) (λ steps e. subst (λ b. Fair whole (money_task s.members) (told_by (settled left_by b))) (sym e) (P.means.plan steps e))
 
 -- what an outlook says, from what the planner says of weights with their changes
 pub foretold : (ms : Members) (a : Answer) (xs gs rs : List Drift) → Answered drift (drift_task ms) a xs gs rs → Foretells ms a (table drift xs)
@@ -148,15 +150,11 @@ foretold ms a xs gs rs P =
       fails = λ steps members e. fails_later (drift_task ms) (bit members) (P.means.outweighs steps members e);
     }
 
-entry_at : (xs : List Money) (j i : ℕ) → i < 64 → table money xs j i ≡ pos (get_or xs (64 * j + i) nothing).0
-unfolding table
-entry_at xs j i l = cond-true (ltb i 64) (row money xs (64 * j + i)) (pos 0) (lt-ltb i 64 l) ∙ row_money xs (64 * j + i)
-
 at_least : (v : ℕ) → le_z (pos 0) (pos v) ≡ true
 at_least v = grind (arith, ints)
 
 -- the transfers of a standing plan are fair
-pub told_fair : (s : State) → Sound s → s.standing ≡ true → Fair whole (money_task s.members) (told_by s)
+told_fair : (s : State) → Sound s → s.standing ≡ true → Fair whole (money_task s.members) (told_by s)
 told_fair s h e =
     let n = s.members.count in
     let for : (j : ℕ) → j < n → plan_for s j ≡ true = λ j l. and_from s.standing (ltb j n) e (lt-ltb j n l) in

@@ -15,7 +15,7 @@ use Rattle.planner.specs.Calls.{all_first, weight_fits, weights_fit, asked}
 use Rattle.planner.specs.Fitted.{Fitted}
 use Rattle.planner.specs.Step.{InStep}
 use Rattle.planner.specs.Tables.{row, table, values, state_of}
-use Rattle.planner.proofs.Entries.{row_here, row_else, row_past, row_read}
+use Rattle.planner.proofs.Entries.{row_here, row_else, row_past, row_is}
 
 pub zeros : (m j : ℕ) → get_or {A = ℕ} (replicate m 0) j 0 ≡ 0
 zeros zero j = refl
@@ -90,7 +90,7 @@ module _ {V : Type 0} (k : Kind V) where
     where
       go : (i ≡ j) ⊎ (i ≡ j → ⊥) → row k (set l j x) i ≡ cond (ltb i (j + 1)) (row k ws i) k.group.nil
       go (inl q) =
-          ap (row k (set l j x)) q ∙ row_here k l j x h ∙ ap k.element e ∙ row_read k ws j x hw ∙ ap (row k ws) (sym q)
+          ap (row k (set l j x)) q ∙ row_here k l j x h ∙ row_is k ws j x hw e ∙ ap (row k ws) (sym q)
           ∙ sym (ap (λ b. cond b (row k ws i) k.group.nil) (lt-ltb i (j + 1) (omega arith)))
       go (inr q) = row_else k l j x i q ∙ p i ∙ ap (λ b. cond b (row k ws i) k.group.nil) (same (cases_lt i j))
         where

@@ -26,6 +26,9 @@ module _ {V : Type 0} (k : Kind V) where
   row_read (v ∷ l) zero d h = refl
   row_read (v ∷ l) (suc j) d h = row_read l j d (omega arith)
 
+  pub row_is : (l : List V) (j : ℕ) (x : V) → j < length l → x ≡ get_or l j x → k.element x ≡ row k l j
+  row_is l j x h r = ap k.element r ∙ row_read l j x h
+
   pub row_past : (l : List V) (j : ℕ) → length l ≤ j → row k l j ≡ k.group.nil
   unfolding row
   row_past [] j h = refl
