@@ -15,6 +15,7 @@ mod tests {
     use refusals::Refusal;
     use std::cmp::Ordering;
 
+    // the limits as they are stated, apart from the code that is tried
     const MOST: u64 = 1_000_000_000_000_000_000;
 
     const MOST_CHANGE: i64 = 1_000_000_000_000_000_000;

@@ -38,6 +38,7 @@ fn admit_all(rt: &impl Print, table: &DatedTable, circle: &mut Circle) -> anyhow
 fn print_giver(rt: &impl Print, circle: &Circle, giver: usize) -> anyhow::Result<()> {
     print!(rt; "    {giver} forfeits")?;
     let mut sum: u64 = 0;
+    // members are asked by their numbers, which are those of this range
     for receiver in 1..=MEMBERS.len() {
         let amount = circle.transfer(giver, receiver)?.0;
         if amount > 0 {

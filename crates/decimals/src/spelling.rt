@@ -39,10 +39,12 @@ impl Digits {
 fn last_digit(number: u64) -> u8
     ensures { result ≡ 48 + number % 10 }
 {
+    // `as` loses no bit of a digit, which is proved; `try_from` would answer a `Result` to take apart.
     b'0' + (number % 10) as u8
 }
 
-// The digits of a number, found from the last to the first.
+// The digits of a number, found from the last to the first until one is left; an iterator over them would be this loop with
+// its state in a struct.
 #[tactic(auto, using(crate::proofs::Spelled::room, crate::proofs::Spelled::one_more))]
 fn spell(number: u64) -> Digits
     ensures { found result ≡ decimal number }

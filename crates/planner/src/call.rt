@@ -15,6 +15,7 @@ fn clear<K: Amount>(amounts: &mut [K])
     ensures values { values K.Amount.kind amounts.new ≡ true }
     ensures zeros { (i : ℕ) → row K.Amount.kind amounts.new i ≡ K.Amount.kind.group.nil }
 {
+    // `fill` would ask that a copy of an amount cannot fail, which no clause of the trait says
     for amount in amounts {
         *amount = K::zero();
     }

@@ -5,6 +5,7 @@ ghost use Rattle.planner.specs.Calls.{word_fits, words_fit, weight_fits, weights
 use amounts::Amount;
 use refusals::Refusal;
 
+// The number of members is a plain number with its bound in a clause, as the plan call takes it, on which one for C stands.
 const MEMBERS: usize = 64;
 
 const PAIRS: usize = 4096;

@@ -37,6 +37,7 @@ impl<K: Amount> Tables<'_, K> {
         ensures same { Same self.old self.new }
         ensures ran { Ran K.Amount.kind (posed K.Amount.kind self.old.words (row K.Amount.kind self.old.to_give.now)) result self.new.transfers.now self.new.to_give.now self.new.to_get.now }
     {
+        // Nothing is counted but the steps that are told: that they end is a bound on the run itself.
         let mut steps = 0;
         'turn: loop {
             let way = match find(&self.words) {

@@ -24,6 +24,9 @@ fn is_above<K: Amount>(amount: K) -> bool
     amount.compare(K::zero()).is_gt()
 }
 
+// Amounts are handed on as plain numbers, with a clause that they are values: the tables are the caller's, and a type of
+// values would be made and taken apart at each entry.
+
 // Writes one amount of a table, and in the table's word whether the member's amount is above zero.
 fn write<K: Amount>(amounts: &mut [K], at: usize, amount: K, word: &mut u64, member: usize)
     requires place { at < length amounts.old }
@@ -38,6 +41,8 @@ fn write<K: Amount>(amounts: &mut [K], at: usize, amount: K, word: &mut u64, mem
 
 impl<K: Amount> Tables<'_, K> {
     ghost use Rattle.planner.specs.Same.{Same};
+
+    // Three methods over one `write`, and not one that is told the table: a match on it would stand in the clauses too.
 
     // Writes the transfer from giver j to receiver i.
     pub(crate) fn put_transfer(&mut self, j: usize, i: usize, amount: K)

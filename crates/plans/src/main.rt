@@ -58,6 +58,7 @@ impl<K: Amount + Drop> Circle<K> {
     }
 }
 
+// Each program words an answer its own way, so that an `Answer` has no text to print.
 fn print_answer(rt: &impl Print, answer: Answer) -> io::Result<()> {
     match answer {
         Answer::Plan { steps } => print!(rt; "plan in {steps} steps"),
@@ -191,6 +192,7 @@ mod tests {
     use super::*;
     use amounts::Drift;
 
+    // the limit as it is stated, apart from the code that is tried
     const MOST_CHANGE: i64 = 1_000_000_000_000_000_000;
 
     fn drift(weight: u64, change: i64) -> Drift {

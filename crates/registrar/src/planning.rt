@@ -12,7 +12,7 @@ use words::Places;
 
 const MEMBERS: usize = 4;
 
-// A circle of the report: what its members weigh, and their permission words.
+// A circle of the report: what its members weigh, and their permission words, in two tables, as the plan call takes them.
 #[derive(Clone, Copy)]
 struct Circle {
     name: &'static str,

@@ -55,8 +55,8 @@ impl DatedTable {
         table
     }
 
-    #[tactic(auto, using(crate::proofs::Entries::fit_row))]
     // The odds of an age at valuation and their yearly change; refused for an age without a row.
+    #[tactic(auto, using(crate::proofs::Entries::fit_row))]
     pub fn rates(&self, age: usize) -> Result<Rates, Refusal>
         ensures value { result ≡ rates_at self.now.table.rows (distance self.now.years) age }
         ensures meaning { ValuedAt self.now.table.rows (distance self.now.years) age result }

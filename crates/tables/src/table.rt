@@ -9,8 +9,8 @@ use refusals::Refusal;
 
 const AGES: usize = 121;
 
-// A mortality table without a date: rows for ages 0 to 120. Its odds hold in a year that nobody has
-// said yet, so that no odds at valuation can be asked of it.
+// A mortality table without a date: a row, or none, for each of the ages 0 to 120, in fixed memory. Its odds
+// hold in a year that nobody has said yet, so that no odds at valuation can be asked of it.
 #[derive(Drop)]
 pub struct Table {
     rows: [Option<Row>; AGES],

@@ -7,6 +7,7 @@ ghost use Rattle.words.specs.Words.{Lowest};
 fn lowest(w: u64) -> usize
     ensures { result ≡ count_trailing_zeros 64 w }
 {
+    // `as`, since no From leads from u32 to usize
     w.trailing_zeros() as usize
 }
 
