@@ -10,11 +10,10 @@ ghost use Rattle.planner.specs.Tables.{table};
 ghost use Rattle.circles.specs.Sound.{Sound};
 
 use crate::ask::ask;
-use crate::members::MEMBERS;
 use crate::refuse;
 use crate::state::State;
 use amounts::{Drift, Money};
-use planner::Answer;
+use planner::{Answer, MEMBERS};
 use refusals::Refusal;
 use tables::Rates;
 

@@ -5,11 +5,9 @@ ghost use Rattle.circles.specs.Sound.{Manned};
 ghost use Rattle.circles.specs.Tasks.{permits};
 
 use crate::member::Member;
+use planner::MEMBERS;
 use std::array;
 use tables::Rates;
-
-// The most members of a circle. The planner has the same limit and shows no constant of it, as its callers need none.
-pub(crate) const MEMBERS: usize = 64;
 
 // The members in the order of their admission; a place that nobody has is blank. It is a table with a count, and no Vec,
 // since a circle has fixed memory and no heap.

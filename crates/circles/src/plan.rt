@@ -3,10 +3,9 @@ ghost use Rattle.circles.specs.Plans.{plan_answer, settled, planned, PlanMeans};
 ghost use Rattle.circles.specs.Sound.{Sound};
 
 use crate::ask::ask;
-use crate::members::MEMBERS;
 use crate::state::State;
 use amounts::Money;
-use planner::Answer;
+use planner::{Answer, MEMBERS};
 
 impl State {
     // After a run has left its transfers in the table: a plan stands, and without one no plan stands.

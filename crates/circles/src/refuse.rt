@@ -1,15 +1,11 @@
 ghost use Rattle.std.specs.Prelude.{◌≡◌, ◌≤◌, ◌-◌, Some, None, MatchResult};
 ghost use Rattle.circles.specs.Calls.{rates_fit, admit_refusal, bar_refusal, plan_refusal, outlook_refusal, balance_refusal, transfer_refusal};
 
-use crate::members::MEMBERS;
-use crate::state::PAIRS;
+use planner::{MEMBERS, PAIRS};
 use refusals::Refusal;
-use tables::Rates;
+use tables::{MOST_ODDS, Rates};
 
 const MOST_CENTS: u64 = 1_000_000_000_000;
-
-// The limit of odds in crate tables too, which shows no constant of it: no caller of a table needs one.
-const MOST_ODDS: u32 = 999_999;
 
 // Whether odds, and odds plus change, are in range.
 fn rates_fit(rates: Rates) -> bool

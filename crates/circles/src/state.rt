@@ -3,9 +3,7 @@ ghost use Rattle.circles.specs.Calls.{opened, voided};
 
 use crate::members::Members;
 use amounts::Money;
-
-// A place for each pair of members, as in the planner's tables.
-pub(crate) const PAIRS: usize = 4096;
+use planner::PAIRS;
 
 // What a circle holds, as plain records and tables; the circle keeps them sound. The total is that of all stakes
 // accepted. The transfer from giver j to receiver i, counted from 0, is at place 64 j + i.

@@ -6,8 +6,9 @@ ghost use Rattle.circles.specs.Weighing.{Weighable, Weighing};
 ghost use Rattle.circles.specs.WeighingLaws.{money_weighing, drift_weighing};
 
 use crate::member::Member;
-use crate::members::{MEMBERS, Members};
+use crate::members::Members;
 use amounts::{Amount, Drift, Money};
+use planner::MEMBERS;
 
 // A kind of amount in which members are weighed.
 pub(crate) trait Weigh: Amount {

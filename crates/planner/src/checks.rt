@@ -5,10 +5,12 @@ ghost use Rattle.planner.specs.Calls.{word_fits, words_fit, weight_fits, weights
 use amounts::Amount;
 use refusals::Refusal;
 
-// The number of members is a plain number with its bound in a clause, as the plan call takes it, on which one for C stands.
-const MEMBERS: usize = 64;
+// The most members of a circle: the length of the tables of a plan call that have an entry for each.
+// Below, their number is a plain one with its bound in a clause, as the plan call takes it, on which one for C stands.
+pub const MEMBERS: usize = 64;
 
-const PAIRS: usize = 4096;
+// The length of the table of transfers, which has an entry for each pair.
+pub const PAIRS: usize = 4096;
 
 // Whether a word has no bit at place n or beyond it.
 fn within(n: usize, permissions: u64) -> bool

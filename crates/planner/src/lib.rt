@@ -15,4 +15,5 @@ mod worked;
 
 pub use answer::Answer;
 pub use call::plan;
+pub use checks::{MEMBERS, PAIRS};
 pub use worked::worked_runs;

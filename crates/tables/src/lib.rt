@@ -10,7 +10,7 @@ mod worked;
 mod years;
 
 pub use dated::DatedTable;
-pub use row::{Rates, Row};
+pub use row::{MOST_ODDS, Rates, Row};
 pub use table::Table;
 pub use worked::{Worked, worked_values};
 pub use years::Years;

@@ -1,7 +1,8 @@
 ghost use Rattle.std.specs.Prelude.{◌≡◌};
 ghost use Rattle.tables.specs.Rows.{row_fits};
 
-const MOST_ODDS: u32 = 999_999;
+// The greatest odds of dying within a year, in millionths.
+pub const MOST_ODDS: u32 = 999_999;
 
 const MOST_FALL: u32 = 100_000;
 
