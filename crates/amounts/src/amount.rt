@@ -36,8 +36,10 @@ pub trait Amount: Copy {
     fn is_value(self) -> bool
         ensures { result ≡ kind.value self };
 
-    // Below, equal or above by the order of the elements for which the numbers stand, values or not.
+    // Below, equal or above by the order of the elements for which two values stand.
     fn ranked(self, other: Self) -> Ordering
+        requires mine { kind.value self ≡ true }
+        requires theirs { kind.value other ≡ true }
         ensures { result ≡ order kind.group (kind.element self) (kind.element other) };
 
     // Below, equal or above by the group's order; equal where one is no value.
@@ -51,7 +53,8 @@ pub trait Amount: Copy {
         }
     }
 
-    // The sum in the machine's numbers, a value only where it is held; nothing where they have no such number.
+    // The sum in the machine's numbers, a value only where it is held; nothing where they have no such number. Nothing is asked of
+    // the two, so that a kind needs to look at no limit twice.
     fn checked_add(self, other: Self) -> Option<Self>
         ensures { Reaches kind (kind.group.plus (kind.element self) (kind.element other)) result };
 
@@ -63,18 +66,20 @@ pub trait Amount: Copy {
     fn sum(self, other: Self) -> Option<Self>
         ensures { Sum kind self other result }
     {
-        let values = self.is_value() && other.is_value();
-        self.checked_add(other)
-            .filter(|total| values && total.is_value())
+        if !self.is_value() || !other.is_value() {
+            return None;
+        }
+        self.checked_add(other).filter(|total| total.is_value())
     }
 
     // The difference; nothing where one is no value or the difference is not held.
     fn difference(self, other: Self) -> Option<Self>
         ensures { Difference kind self other result }
     {
-        let values = self.is_value() && other.is_value();
-        self.checked_sub(other)
-            .filter(|rest| values && rest.is_value())
+        if !self.is_value() || !other.is_value() {
+            return None;
+        }
+        self.checked_sub(other).filter(|rest| rest.is_value())
     }
 
     // Writes the text of a value at the start of a buffer that has room for it, and answers its length.

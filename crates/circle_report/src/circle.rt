@@ -4,7 +4,7 @@ use amounts::{Amount, Drift};
 use anyhow::{Context, bail};
 use circles::Circle;
 use planner::Answer;
-use samples::{Members, weight_of};
+use samples::{MemberSet, weight_of};
 use tables::DatedTable;
 
 // The members by age and stake.
@@ -61,7 +61,7 @@ fn print_plan(rt: &impl Print, circle: &mut Circle) -> anyhow::Result<()> {
         }
         Answer::Blocked { steps, members } => println!(rt;
             "  blocked after {steps} steps by members{}",
-            Members(members)
+            MemberSet(members)
         )?,
         Answer::Outgrown { .. } => bail!("a plan in money is never outgrown"),
     }
@@ -90,7 +90,7 @@ fn print_outlook(rt: &impl Print, circle: &Circle) -> anyhow::Result<()> {
         }
         Answer::Blocked { steps, members } => println!(rt;
             "  just after its date it is blocked after {steps} steps by members{}",
-            Members(members)
+            MemberSet(members)
         )?,
         Answer::Outgrown { steps } => println!(rt;
             "  the outlook is outgrown after {steps} steps"

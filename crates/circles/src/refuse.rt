@@ -7,6 +7,8 @@ use tables::{MOST_ODDS, Rates};
 
 const MOST_CENTS: u64 = 1_000_000_000_000;
 
+// The refusals of a circle. They take the numbers that are tried, and no State, so that each is its definition alone.
+
 // Whether odds, and odds plus change, are in range.
 fn rates_fit(rates: Rates) -> bool
     ensures { result ≡ rates_fit rates }
@@ -37,7 +39,7 @@ pub(crate) fn admission(total: u64, count: usize, stake: u64, rates: Rates) -> R
 pub(crate) fn member(count: usize, number: usize) -> Result<usize, Refusal>
     ensures { MatchResult result (λ k. (balance_refusal count number ≡ None) × (k ≡ number - 1)) (λ e. balance_refusal count number ≡ Some e) }
 {
-    if 1 <= number && number <= count {
+    if (1..=count).contains(&number) {
         Ok(number - 1)
     } else {
         Err(Refusal::NotAdmitted)

@@ -7,7 +7,7 @@ use planner::PAIRS;
 
 // What a circle holds, as plain records and tables; the circle keeps them sound. The total is that of all stakes
 // accepted. The transfer from giver j to receiver i, counted from 0, is at place 64 j + i.
-// The flag stands beside the table, and no Option around it: the planner fills the circle's own table, and nothing is copied.
+// The flag stands beside the table, and no Option around it: the planner fills the table before it is known whether a plan stands.
 // No ghost field here or in Members: definitions make both as plain records, which with proofs in them would say no
 // more to a reader. What holds of them in every circle is one record each, Sound and Manned, and Circle carries it.
 #[derive(Drop)]

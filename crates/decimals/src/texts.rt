@@ -4,7 +4,7 @@ use refusals::Refusal;
 
 // Writes a text into a buffer from a place on, and answers the place after it. Where it would pass
 // the buffer's end it is refused, and the buffer stays as found.
-// A place goes with the buffer, and no text grows: there is no heap to put it on.
+// A buffer and a place in it, and no text that grows: it is a part of a caller's buffer, with no heap.
 pub fn put(buffer: &mut [u8], at: usize, text: &[u8]) -> Result<usize, Refusal>
     ensures { Puts buffer.old at text.now result buffer.new }
 {

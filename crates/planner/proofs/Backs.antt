@@ -1,6 +1,6 @@
 -- The sweep back from a receiver, as a loop over the places of a word.
-use Rattle.std.proofs.Common.{◌≡◌, ℕ, ◌<◌, true, false, not, ◌&&◌, get_or, sym, ap, ◌∙◌, subst, arith}
-use Rattle.std.proofs.lemmas.Bool.{and_left, and_parts, not-true}
+use Rattle.std.proofs.Common.{◌≡◌, ℕ, true, not, ◌&&◌, get_or, sym, ap, ◌∙◌, subst, arith}
+use Rattle.std.proofs.lemmas.Bool.{and_left}
 use Rattle.words.specs.Words.{bit, Lowest}
 use Rattle.words.specs.Sweep.{Swept}
 use Rattle.words.proofs.Sweeps.{Acts, sweep_starts, sweep_acts}
@@ -22,12 +22,6 @@ backs_start w q i v h =
 module _ (w : Words) (q₀ q : Seek) (i v k u : ℕ) (b : Backing w i q₀ v q) (l : Lowest v k u) where
   acts : Acts (back_test (tests w) i) (joined i) w.n (model searching q₀) (model searching q) k u
   acts = sweep_acts (back_test (tests w) i) (joined i) w.n (model searching q₀) v (model searching q) k u b l
-
-  pub backs_within : k < w.n
-  backs_within = acts.within
-
-  pub backs_new : bit q.reached k ≡ false
-  backs_new = not-true (bit q.reached k) (and_parts (bit (get_or w.holders i 0) k) (not (bit q.reached k)) acts.met).1
 
   pub backs_next : (q' : Seek) → model searching q' ≡ joined i k (model searching q) → Backing w i q₀ u q'
   backs_next q' e =

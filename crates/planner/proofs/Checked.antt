@@ -2,7 +2,7 @@
 use Rattle.std.specs.List.{list_all, range_with_len}
 use Rattle.std.proofs.lemmas.List.Folds.{list_all-append, list_all-map}
 use Rattle.std.proofs.lemmas.List.FromFn.{map-range_with_len_more}
-use Rattle.std.proofs.Common.{map, take, ap, ap₂, ◌≡◌, ℕ, zero, suc, ◌-◌, ◌^◌, ◌<◌, ◌≤◌, Bool, true, false, ◌&&◌, ltb, leb, ◌⊎◌, List, [], ◌∷◌, length, get_or, sym, refl, ◌∙◌, subst, inl, inr, true≢false, add-one, arith}
+use Rattle.std.proofs.Common.{map, take, ap, ap₂, ◌≡◌, ℕ, zero, suc, ◌-◌, ◌^◌, ◌<◌, ◌≤◌, Bool, true, false, ◌&&◌, ltb, leb, ◌⊎◌, List, [], ◌∷◌, length, get_or, sym, refl, ◌∙◌, subst, inl, inr, add-one, arith}
 use Rattle.std.proofs.lemmas.Nat.{pow_pos}
 use Rattle.std.proofs.lemmas.Bool.{and_left, and_right, and_parts, cases_eq, le-leb, lt-leb, lt-ltb, le-ltb, cases_lt}
 use Rattle.planner.specs.Calls.{all_below, all_first}
@@ -62,10 +62,3 @@ module _ {V : Type 0} (p : V → Bool) where
   first_not (suc n) [] j x h l r f = absurd (omega arith)
   first_not (suc n) (v ∷ vs) zero x h l r f = and_left (p v) (all_first p n vs) (subst (λ y. p y ≡ false) r f)
   first_not (suc n) (v ∷ vs) (suc j) x h l r f = and_right (p v) (all_first p n vs) (first_not n vs j x (omega arith) (omega arith) r f)
-
-  pub first_at : (n : ℕ) (vs : List V) (j : ℕ) (x : V) → j < n → j < length vs → x ≡ get_or vs j x → all_first p n vs ≡ true → p x ≡ true
-  first_at n vs j x h l r f = go (p x) refl
-    where
-      go : (b : Bool) → p x ≡ b → p x ≡ true
-      go true e = e
-      go false e = absurd (true≢false (sym f ∙ first_not n vs j x h l r e))

@@ -1,6 +1,5 @@
 -- The visit of a giver, as a loop over the places of a word.
 use Rattle.std.proofs.Common.{◌≡◌, ℕ, zero, suc, ◌<◌, ◌≤◌, Bool, true, false, cond, not, ◌&&◌, eqb, get_or, set, sym, refl, ap, ◌∙◌, subst, ap₂, arith}
-use Rattle.std.proofs.lemmas.List.{length-set}
 use Rattle.std.proofs.lemmas.Bool.{and_left, cond-true, cond-false}
 use Rattle.words.specs.Words.{bit, Lowest}
 use Rattle.words.specs.Sweep.{sweep, Swept}
@@ -10,7 +9,7 @@ use Rattle.planner.specs.declared.state.Seek.{Seek}
 use Rattle.planner.specs.declared.state.Words.{Words}
 use Rattle.flow.specs.Search.{Tests, going, back_test, backs, out_test, out_act, outs}
 use Rattle.planner.specs.Model.{places, model, tests, Sound}
-use Rattle.planner.proofs.Marks.{marked, mark_other, bit_marked, set_below}
+use Rattle.planner.proofs.Marks.{marked, mark_other, bit_marked}
 
 abbrev pub Outing : Words → ℕ → Seek → ℕ → Seek → Type 0
 Outing w j q₀ v q = Swept (out_test (tests w) j) (out_act (tests w) j) w.n (model searching q₀) v (model searching q)
@@ -41,26 +40,9 @@ module _ (n : ℕ) (q : Seek) (j i m : ℕ) (s : Sound n q) (y : j < n) (z : i <
   noted_model ends =
       λ k. record { pending = (model ends q).pending; reached = bit q.reached; seen = bit_marked q.seen i m e k; from = marked q.marks.from i j 0 (omega (arith, s.marks.froms)) k; via = places q.marks.via; ends = ends }
 
-  pub noted_sound : Sound n seen_too
-  noted_sound = record {
-    ahead = s.ahead;
-    queues = s.queues;
-    room = s.room;
-    members = s.members;
-    marks = record {
-      froms = length-set q.marks.from i j ∙ s.marks.froms;
-      vias = s.marks.vias;
-      sources = λ c h. set_below n q.marks.from i j y s.marks.sources c h;
-      bridges = s.marks.bridges;
-    };
-  }
-
 module _ (w : Words) (q₀ q : Seek) (j v i u : ℕ) (b : Outing w j q₀ v q) (l : Lowest v i u) where
   acts : Acts (out_test (tests w) j) (out_act (tests w) j) w.n (model searching q₀) (model searching q) i u
   acts = sweep_acts (out_test (tests w) j) (out_act (tests w) j) w.n (model searching q₀) v (model searching q) i u b l
-
-  pub outs_within : i < w.n
-  outs_within = acts.within
 
   module _ (q₁ : Seek) (n : (z : Ends) → model z q₁ ≡ noted j i (model z q)) where
     -- the search ends at i

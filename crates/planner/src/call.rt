@@ -30,7 +30,8 @@ fn rules(n: usize, permissions: &[u64]) -> [u64; 64]
 {
     let all = words::first(n);
     let mut r = [0; 64];
-    // `r[j]` is written by index: a proof cannot name `r` in a loop over its `iter_mut`.
+    // `r[j]` is written by index: a proof cannot name `r` in a loop over its `iter_mut`, and of `array::from_fn`, which was
+    // tried too, the words that it makes stayed open.
     for (j, word) in permissions[..n].iter().enumerate() {
         r[j] = words::both(all, *word);
     }

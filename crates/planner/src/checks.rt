@@ -6,7 +6,7 @@ use amounts::Amount;
 use refusals::Refusal;
 
 // The most members of a circle: the length of the tables of a plan call that have an entry for each.
-// Below, their number is a plain one with its bound in a clause, as the plan call takes it, on which one for C stands.
+// Below, their number is a plain one with its bound in a clause, as the plan call takes it, and the one for C with it.
 pub const MEMBERS: usize = 64;
 
 // The length of the table of transfers, which has an entry for each pair.
@@ -29,7 +29,7 @@ fn word_fits(n: usize, j: usize, permissions: u64) -> bool
     !words::has(permissions, j) && within(n, permissions)
 }
 
-// Whether the permission words of all n givers fit.
+// Whether the permission words of all n givers fit. They go by number, with which each is tried.
 fn words_fit(n: usize, permissions: &[u64]) -> bool
     requires size { n ≤ 64 }
     requires room { n ≤ length permissions.now }
@@ -53,7 +53,7 @@ fn weights_fit<K: Amount>(n: usize, weights: &[K]) -> bool
     weights[..n].iter().all(|&weight| weight_fits(weight))
 }
 
-// Tries what a plan call is given.
+// Tries what a plan call is given; its parameters are those of `plan`.
 pub(crate) fn check<K: Amount>(
     n: usize,
     weights: &[K],
@@ -72,7 +72,7 @@ pub(crate) fn check<K: Amount>(
     {
         return Err(Refusal::Length);
     }
-    if n < 1 || n > MEMBERS {
+    if !(1..=MEMBERS).contains(&n) {
         return Err(Refusal::MemberRange);
     }
     if !words_fit(n, permissions) {

@@ -16,6 +16,7 @@ struct Search<'a> {
     ghost sound: { Sound words.now.n seek },
 }
 
+// What a method leaves as it was is a clause for each of the two, `still` and `words`: a record of two says no more.
 impl<'a> Search<'a> {
     // A search that has reached the givers with something to give, queued in rising number.
     fn start(words: &'a Words) -> Search<'a>
@@ -23,6 +24,7 @@ impl<'a> Search<'a> {
         ensures first { result.seek.head ≡ 0 }
         ensures words { result.words.now ≡ words.now }
     {
+        // the places are counted, since the search goes on from the queue's end
         let mut queue = [0; 64];
         let mut tail = 0;
         for k in Places(words.givers) {
@@ -50,7 +52,7 @@ impl<'a> Search<'a> {
         requires { self.now.seek.head < 64 }
         ensures { result ≡ slice_index self.now.seek.queue self.now.seek.head }
     {
-        self.seek.queue[self.seek.head] as usize
+        usize::from(self.seek.queue[self.seek.head])
     }
 
     // The giver at the queue's front, who leaves it.

@@ -11,7 +11,7 @@ use crate::hunt::find;
 use crate::tables::Tables;
 use amounts::Amount;
 
-// The count of steps after one more.
+// The count of steps after one more; a run of 64 members has at most 258,176.
 fn one_more(steps: usize) -> usize
     requires { steps < 258177 }
     ensures { result ≡ 1 + steps }

@@ -1,7 +1,7 @@
 ghost use Rattle.planner.specs.Fitted.{Fitted};
 
-// A set of members is a word of 64 bits, member k at place k. What is known of each member stands in a table of 64, since
-// there is no heap.
+// A set of members is a word of 64 bits, member k at place k. What is known of each member stands in a table of 64, one
+// for each place of a word, since there is no heap.
 #[derive(Drop)]
 pub(crate) struct Words {
     pub(crate) n: usize,
@@ -13,8 +13,8 @@ pub(crate) struct Words {
 }
 
 // For each receiver that a search has seen, the giver from whom it saw it, and for each giver that it has reached back,
-// the receiver through whom it did. Members are bytes here, so that a search stays small: `as` leads to them and back, and no
-// bit is lost, which is proved; a From says so only one way.
+// the receiver through whom it did. Members are bytes here, eight times less to clear for each search; `as` leads to
+// them, as it is proved that no bit is lost, and `try_from` would answer a Result to take apart.
 #[derive(Drop)]
 pub(crate) struct Marks {
     pub(crate) from: [u8; 64],

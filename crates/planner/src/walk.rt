@@ -37,6 +37,7 @@ impl<K: Amount> Tables<'_, K> {
         requires value { K.Amount.kind.value d ≡ true }
         ensures { result ≡ fits_on self.now way.now (K.Amount.kind.element d) }
     {
+        // `&`, and no `&&`, which would be a path of its own for each test
         let mut fits = true;
         let mut i = way.receiver;
         let mut hops = way.hops();

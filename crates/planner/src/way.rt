@@ -18,7 +18,8 @@ pub(crate) struct Way {
 
 // A walk along a way, from its receiver back. Each link here is one whose transfer is taken back: from the
 // giver where the walk stands to the receiver through whom the search came to that giver. Loops over a walk
-// are `while let`, since the giver where it ends is read afterwards.
+// are `while let`, since the giver where it ends is read afterwards; of a `for` over `&mut hops`, which was tried, the
+// proof loses what the walk keeps.
 #[derive(Drop)]
 pub(crate) struct Hops<'a> {
     way: &'a Way,
@@ -37,7 +38,7 @@ impl Way {
         Hops {
             way: self,
             turns: self.members,
-            giver: self.marks.from[self.receiver] as usize,
+            giver: usize::from(self.marks.from[self.receiver]),
         }
     }
 }
@@ -57,9 +58,9 @@ impl Iterator for Hops<'_> {
             return None;
         }
         let giver = self.giver;
-        let receiver = self.way.marks.via[giver] as usize;
+        let receiver = usize::from(self.way.marks.via[giver]);
         self.turns -= 1;
-        self.giver = self.way.marks.from[receiver] as usize;
+        self.giver = usize::from(self.way.marks.from[receiver]);
         Some(Link { giver, receiver })
     }
 }

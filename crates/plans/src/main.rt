@@ -9,10 +9,10 @@ use amounts::{Amount, Money};
 use anyhow::Context;
 use planner::{Answer, plan};
 use refusals::Refusal;
-use samples::Members;
+use samples::MemberSet;
 use std::{io, iter};
 
-// The five tables of a plan call, as long as the call wants them: fixed memory, with no heap.
+// The five tables of a plan call, of just the lengths that it asks for.
 #[derive(Drop)]
 struct Circle<K> {
     n: usize,
@@ -64,7 +64,7 @@ fn print_answer(rt: &impl Print, answer: Answer) -> io::Result<()> {
         Answer::Plan { steps } => print!(rt; "plan in {steps} steps"),
         Answer::Outgrown { steps } => print!(rt; "outgrown in {steps} steps"),
         Answer::Blocked { steps, members } => {
-            print!(rt; "blocked in {steps} steps by{}", Members(members))
+            print!(rt; "blocked in {steps} steps by{}", MemberSet(members))
         }
     }
 }

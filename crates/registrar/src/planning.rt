@@ -5,7 +5,7 @@ use amounts::Money;
 use anyhow::Context;
 use planner::{Answer, plan};
 use refusals::Refusal;
-use samples::Members;
+use samples::MemberSet;
 use std::fmt::Display;
 use std::{array, io};
 use words::Places;
@@ -103,13 +103,13 @@ impl Circle {
     fn print_blocked(&self, rt: &impl Print, members: u64) -> io::Result<()> {
         println!(rt;
             "  members{} weigh {} together",
-            Members(members),
+            MemberSet(members),
             self.weight_of(members)
         )?;
         let receivers = self.receivers_of(members);
         println!(rt;
             "  all who may receive from them,{}, weigh {}",
-            Members(receivers),
+            MemberSet(receivers),
             self.weight_of(receivers)
         )
     }

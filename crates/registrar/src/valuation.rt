@@ -2,9 +2,7 @@
 use refusals::Refusal;
 use samples::sample_table;
 use std::io;
-use tables::{DatedTable, Years};
-
-const OLDEST: usize = 120;
+use tables::{AGES, DatedTable, Years};
 
 // Tries a pair of years and says how that went.
 fn try_years(rt: &impl Print, base: u16, valuation: u16) -> io::Result<Result<Years, Refusal>> {
@@ -32,7 +30,7 @@ fn print_heading(rt: &impl Print, years: Years) -> io::Result<()> {
 // Prints a line for each age that has a row, and tells how many there are.
 fn print_rates(rt: &impl Print, table: &DatedTable) -> io::Result<u32> {
     let mut valued: u32 = 0;
-    for age in 0..=OLDEST {
+    for age in 0..AGES {
         if let (Some(row), Ok(rates)) = (table.row(age), table.rates(age)) {
             println!(rt;
                 "  {age:>3}  {:>12}  {:>11}  {:>17}  {:>13}",

@@ -26,7 +26,7 @@ const SECOND: Member = Member {
 
 // Prints an amount's letter and text.
 fn print_amount<K: Amount>(rt: &impl Print, label: &str, amount: K) -> anyhow::Result<()> {
-    // an amount writes its text into its caller's buffer: fixed memory, with no heap
+    // an amount writes its text into its caller's buffer
     let mut buffer = [0u8; 40];
     let size = amount.text(&mut buffer)?;
     let text = std::str::from_utf8(buffer.get(..size).context("a text that is too long")?)?;

@@ -5,6 +5,6 @@ mod members;
 mod table;
 mod weight;
 
-pub use members::Members;
+pub use members::MemberSet;
 pub use table::sample_table;
 pub use weight::weight_of;

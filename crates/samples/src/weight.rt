@@ -3,6 +3,8 @@ ghost use Rattle.std.specs.Prelude.{◌≡◌, ◌*◌, ◌-◌, ◌^◌, min};
 use amounts::Money;
 use tables::Rates;
 
+// The crate circles has its own for stakes within bounds, where no product is cut off.
+
 // What a stake forfeits in a year by its odds, in cents and millionths; at most what a word holds.
 pub fn weight_of(stake: u64, rates: Rates) -> Money
     ensures { result ≡ record { 0 = min (stake * rates.odds) (2 ^ 64 - 1) } }

@@ -7,9 +7,6 @@ use Rattle.tables.specs.Ranges.{odds_fit, fall_fits}
 pub fall_below : (f odds : ℕ) → f ≤ 100000 → 1 ≤ odds → fall_of f odds < odds
 fall_below f odds small some = let product = mul-le-mul_left odds small in omega arith
 
-pub odds_fit_within : (odds : ℕ) → 1 ≤ odds → odds ≤ 999999 → odds_fit odds ≡ true
-odds_fit_within odds low high = grind arith
-
 pub odds_low : (odds : ℕ) → odds_fit odds ≡ true → 1 ≤ odds
 odds_low odds h = grind arith
 

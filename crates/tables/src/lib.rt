@@ -11,7 +11,7 @@ mod years;
 
 pub use dated::DatedTable;
 pub use row::{MOST_ODDS, Rates, Row};
-pub use table::Table;
+pub use table::{AGES, Table};
 pub use worked::{Worked, worked_values};
 pub use years::Years;
 

@@ -7,7 +7,8 @@ use crate::row::Row;
 use crate::years::Years;
 use refusals::Refusal;
 
-const AGES: usize = 121;
+// How many ages there are: 0 to 120.
+pub const AGES: usize = 121;
 
 // A mortality table without a date: a row, or none, for each of the ages 0 to 120, in fixed memory. Its odds
 // hold in a year that nobody has said yet, so that no odds at valuation can be asked of it.

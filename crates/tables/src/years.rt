@@ -50,6 +50,7 @@ impl Years {
     pub(crate) fn distance(&self) -> u16
         ensures { result ≡ self.now.valuation - self.now.base }
     {
+        // read first, so that both are known to be in the range of their type
         let (base, valuation) = (self.base, self.valuation);
         valuation - base
     }

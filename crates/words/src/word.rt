@@ -1,7 +1,8 @@
 ghost use Rattle.std.specs.Prelude.{◌≡◌, ℕ, ◌+◌, ◌-◌, ◌*◌, ◌^◌, ◌<◌, ◌≤◌, Bool, true, false, not, ◌&&◌, if◌then◌else◌, nat_eq, nat_lt};
 ghost use Rattle.words.specs.Words.{bit, marked};
 
-// A place is a plain number below 64, which its clause says: a type of places would be made and taken apart at each call.
+// A set is a plain word, as the plan call takes permission words, and the one for C with it; a place is a plain number below
+// 64, which its clause says: a type of places would be made and taken apart at each call.
 
 // Whether place k is taken.
 #[tactic(auto, using(crate::proofs::Digits::digit_at))]
