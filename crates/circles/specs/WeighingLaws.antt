@@ -13,23 +13,25 @@ use Rattle.circles.specs.Calls.{rates_fit}
 use Rattle.circles.specs.Tasks.{weight_in, change_in, money_of, drift_of}
 use Rattle.circles.specs.Weighing.{Weighable, Weighing}
 
--- a balance times a yearly change of odds is within 10^18 either way
+-- a balance times a yearly change of odds is at least -10^18
 pub product_low : (b : ℕ) (z : ℤ) → b ≤ 1000000000000 → neg_ℤ (pos 1000000) ≤ℤ z → neg_ℤ (pos 1000000000000000000) ≤ℤ (pos b *ℤ z)
 product_low b (pos n) h l = subst (λ p. neg_ℤ (pos 1000000000000000000) ≤ℤ p) (sym (pos-*ℤ-pos b n)) (omega (arith, ints))
 product_low b (negsuc n) h l =
     let m : b * suc n ≤ 1000000000000 * 1000000 = mul-le b (suc n) 1000000000000 1000000 h (omega (arith, ints)) in
     subst (λ p. neg_ℤ (pos 1000000000000000000) ≤ℤ p) (sym (pos-*ℤ-negsuc b n)) (omega (arith, ints))
 
+-- and at most 10^18
 pub product_high : (b : ℕ) (z : ℤ) → b ≤ 1000000000000 → z ≤ℤ pos 1000000 → (pos b *ℤ z) ≤ℤ pos 1000000000000000000
 product_high b (pos n) h l =
     let m : b * n ≤ 1000000000000 * 1000000 = mul-le b n 1000000000000 1000000 h (omega (arith, ints)) in
     subst (λ p. p ≤ℤ pos 1000000000000000000) (sym (pos-*ℤ-pos b n)) (omega (arith, ints))
 product_high b (negsuc n) h l = subst (λ p. p ≤ℤ pos 1000000000000000000) (sym (pos-*ℤ-negsuc b n)) (omega (arith, ints))
 
--- rates in range
+-- of rates in range, the change is at least -10^6
 pub change_low : (r : Rates) → rates_fit r ≡ true → neg_ℤ (pos 1000000) ≤ℤ r.change
 change_low r h = grind (arith, nat_tests, ints)
 
+-- and at most 10^6
 pub change_high : (r : Rates) → rates_fit r ≡ true → r.change ≤ℤ pos 1000000
 change_high r h = grind (arith, nat_tests, ints)
 
@@ -61,9 +63,11 @@ weight_none m e = ap (λ b. b * m.rates.odds) e ∙ zero-mul m.rates.odds
 change_none : (m : Member) → m.balance ≡ 0 → change_in m ≡ pos 0
 change_none m e = ap (λ b. pos b *ℤ m.rates.change) e ∙ zero-*ℤ m.rates.change
 
+-- the weights of members in money are weights that the planner takes
 pub money_weighing : Weighing money money_of
 money_weighing = record { fits = λ m h. money_ok (weight_in m) (weight_high m h); none = λ m e. ap pos (weight_none m e) }
 
+-- and so are those in drift
 pub drift_weighing : Weighing drift drift_of
 drift_weighing =
     record {

@@ -14,6 +14,7 @@ found digits = drop digits.first digits.bytes
 abbrev pub spelled : Bool → ℕ → List ℕ
 spelled negative size = if negative then 45 ∷ decimal size else decimal size
 
+-- the text of a number with a sign is spelled by its sign and its size
 pub signed_spelled : (number : ℤ) → signed_decimal number ≡ spelled (is_negative number) (unsigned_abs number)
 signed_spelled (pos n) = sym (cond-false (ltb n 0) (45 ∷ decimal n) (decimal n) (le-ltb n 0 (omega arith)))
 signed_spelled (negsuc n) = refl

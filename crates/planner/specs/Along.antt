@@ -19,13 +19,15 @@ module _ {V : Type 0} {g : Ghosts V} (t : Tables V g) (y : Way) where
   abbrev pub least_on : g.kind.group.Element
   least_on = least_along g.kind links (state t) y.receiver
 
-  -- whether an amount that is moved along them leaves only amounts that are held, all at once or written link by link
+  -- whether an amount that is moved along them leaves only amounts that are held
   abbrev pub fits_on : g.kind.group.Element → Bool
   fits_on d = fits_along g.kind links (state t) y.receiver d
 
+  -- the same of the transfers alone, all links at once
   abbrev pub held_on : g.kind.group.Element → Bool
   held_on d = held_along g.kind.group g.kind.held d links.first links.hops y.receiver (table g.kind t.transfers.now)
 
+  -- and of the transfers alone, written link by link
   abbrev pub writable_on : g.kind.group.Element → Bool
   writable_on d = writable_along g.kind links (state t) y.receiver d
 

@@ -42,6 +42,7 @@ pub record Taken (q : Seek) (j : ℕ) (q' : Seek) : Type 0 where
   pub giver : j ≡ slice_index q.queue q.head
   pub left : q' ≡ record { queue = q.queue; head = q.head + 1; tail = q.tail; reached = q.reached; seen = q.seen; marks = q.marks }
 
+-- the same where nobody is queued too: then nothing is answered and nothing changes
 abbrev pub Popped : Seek → Option ℕ → Seek → Type 0
 Popped q r q' = MatchOption r ((q.tail ≤ q.head) × (q' ≡ q)) (λ j. Taken q j q')
 
