@@ -42,7 +42,7 @@ pub trait Amount: Copy {
         requires theirs { kind.value other ≡ true }
         ensures { result ≡ order kind.group (kind.element self) (kind.element other) };
 
-    // Below, equal or above by the group's order; equal where one is no value.
+    // Below, equal or above by the group's order; equal where one is no value, as the rules say, for which there is no derive.
     fn compare(self, other: Self) -> Ordering
         ensures { result ≡ compared kind self other }
     {

@@ -55,6 +55,7 @@ fn print_plan(rt: &impl Print, circle: &mut Circle) -> anyhow::Result<()> {
     match circle.plan()? {
         Answer::Plan { steps } => {
             println!(rt; "  a fair plan stands, found in {steps} steps")?;
+            // by their numbers again
             for giver in 1..=MEMBERS.len() {
                 print_giver(rt, circle, giver)?;
             }

@@ -63,6 +63,8 @@ impl Circle {
         Ok(())
     }
 
+    // Two public calls over the private one, since the rules have two: a reader sees which is meant, and no `true` or `false`.
+
     // Forbids the receiver to gain by the giver's death; the standing plan is void.
     pub fn bar(&mut self, giver: usize, receiver: usize) -> Result<(), Refusal>
         ensures answer { result ≡ judged (bar_refusal self.old.state.members.count giver receiver) tt }
@@ -91,8 +93,8 @@ impl Circle {
     }
 
     // Tells whether the circle stays plannable just after its date, by the weights with their yearly changes, and
-    // leaves the plan's transfers, amounts still to give and amounts still to get in tables of the caller's. The
-    // circle is not changed.
+    // leaves the plan's transfers, amounts still to give and amounts still to get in tables of the caller's, which are no
+    // struct, since the planner takes them one by one too. The circle is not changed.
     #[tactic(auto, using(crate::proofs::Planning::foretold))]
     pub fn outlook(
         &self,

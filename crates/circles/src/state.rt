@@ -16,6 +16,7 @@ pub struct State {
     pub members: Members,
     pub total: u64,
     pub standing: bool,
+    // a place for each pair, since there is no heap
     pub transfers: [Money; PAIRS],
 }
 

@@ -5,6 +5,7 @@ use refusals::Refusal;
 use std::test::Fail;
 use tables::Rates;
 
+// the limit as it is stated, apart from the code that is tried
 const TRILLION: u64 = 1_000_000_000_000;
 
 const NO_DRIFT: Drift = Drift {
@@ -75,6 +76,7 @@ fn total_of_exactly_its_limit(rt: HostRuntime) {
 #[test]
 fn circle_of_sixty_four(rt: HostRuntime) -> Result<(), Fail> {
     let mut circle = Circle::new(0);
+    // the same call so many times; nothing is indexed
     for _ in 0..64 {
         circle.admit(200, rates(10_000, 0))?;
     }

@@ -24,7 +24,8 @@ pub(crate) trait Weigh: Amount {
     ghost weighing: { Weighing Self.kind weight };
 }
 
-// The weight of a member: its balance times its odds.
+// The weight of a member: its balance times its odds. It is exact, for balances within bounds; that of the crate samples takes
+// every stake, and answers at most what a word holds.
 fn weight_of(member: Member) -> u64
     requires { Weighable member }
     ensures { result ≡ weight_in member }

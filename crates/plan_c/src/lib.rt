@@ -9,7 +9,7 @@ use amounts::Money;
 use planner::plan;
 use told::Told;
 
-// The plan call for money, with the answer in numbers.
+// The plan call for money, with the answer in numbers. Its parameters are those that C passes.
 #[unsafe(no_mangle)]
 pub extern "C" fn plan_money(
     n: usize,

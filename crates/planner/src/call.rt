@@ -96,7 +96,7 @@ fn start<K: Amount>(
 // The tables hold 64 weights, 64 permission words (bit i - 1 of giver j's word is set if i may receive from
 // j), 4,096 transfers with that from j to i at place 64 (j - 1) + (i - 1), 64 amounts still to give and 64 still
 // to get; weights and words beyond n do not count. The last three are filled. A call that is refused
-// leaves them as found.
+// leaves them as found. They are no struct: they are the caller's, and are judged before anything is said of them.
 pub fn plan<K: Amount>(
     n: usize,
     weights: &[K],

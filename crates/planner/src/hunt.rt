@@ -28,7 +28,7 @@ impl<'a> Search<'a> {
         let mut queue = [0; 64];
         let mut tail = 0;
         for k in Places(words.givers) {
-            queue[tail] = k as u8;
+            queue[tail] = k as u8; // no bit is lost, which is proved
             tail += 1;
         }
         Search {
@@ -94,6 +94,7 @@ impl<'a> Search<'a> {
         ensures words { self.new.words.now ≡ self.old.words.now }
     {
         self.seek.reached = words::with(self.seek.reached, k);
+        // `as`: no bit of a member's number is lost, which is proved
         self.seek.marks.via[k] = i as u8;
         self.seek.queue[self.seek.tail] = k as u8;
         self.seek.tail += 1;
@@ -120,7 +121,7 @@ impl<'a> Search<'a> {
         ensures words { self.new.words.now ≡ self.old.words.now }
     {
         self.seek.seen = words::with(self.seek.seen, i);
-        self.seek.marks.from[i] = j as u8;
+        self.seek.marks.from[i] = j as u8; // no bit is lost, which is proved
     }
 
     // Takes the receivers permitted from giver j in rising number, and answers the first that has still to get.
@@ -147,6 +148,7 @@ fn search_all(w: &Words) -> Result<Way, u64>
     ensures { Finds w.now result }
 {
     let mut search = Search::start(w);
+    // the queue grows while it is emptied, so there is nothing to iterate over
     while let Some(j) = search.pop() {
         if let Some(receiver) = search.visit(j) {
             return Ok(Way {
@@ -191,7 +193,7 @@ fn straight(w: &Words, link: Link) -> Way
     ensures { Leads w.now result }
 {
     let mut from = [0; 64];
-    from[link.receiver] = link.giver as u8;
+    from[link.receiver] = link.giver as u8; // no bit is lost, which is proved
     Way {
         marks: Marks { from, via: [0; 64] },
         receiver: link.receiver,

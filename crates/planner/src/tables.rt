@@ -43,6 +43,7 @@ impl<K: Amount> Tables<'_, K> {
     ghost use Rattle.planner.specs.Same.{Same};
 
     // Three methods over one `write`, and not one that is told the table: a match on it would stand in the clauses too.
+    // What a method leaves as it was stands clause by clause, since each leaves something else.
 
     // Writes the transfer from giver j to receiver i.
     pub(crate) fn put_transfer(&mut self, j: usize, i: usize, amount: K)

@@ -25,6 +25,7 @@ impl<K: Amount> Tables<'_, K> {
     {
         let mut d = self.to_get[way.receiver];
         let mut hops = way.hops();
+        // no `for`: where the walk ends is read afterwards
         while let Some(link) = hops.next() {
             d = lesser(self.transfers[64 * link.giver + link.receiver], d);
         }
@@ -41,6 +42,7 @@ impl<K: Amount> Tables<'_, K> {
         let mut fits = true;
         let mut i = way.receiver;
         let mut hops = way.hops();
+        // no `for`: where the walk ends is read afterwards
         while let Some(link) = hops.next() {
             fits &= Change::Add(d).is_held(self.transfers[64 * link.giver + i]);
             fits &= Change::Take(d).is_held(self.transfers[64 * link.giver + link.receiver]);
@@ -81,6 +83,7 @@ impl<K: Amount> Tables<'_, K> {
     {
         let mut i = way.receiver;
         let mut hops = way.hops();
+        // no `for`: where the walk ends is read afterwards
         while let Some(link) = hops.next() {
             self.change(link.giver, i, Change::Add(d));
             self.change(link.giver, link.receiver, Change::Take(d));

@@ -10,6 +10,7 @@ fn try_years(rt: &impl Print, base: u16, valuation: u16) -> io::Result<Result<Ye
     print!(rt; "  base {base}, valuation {valuation}: ")?;
     match years {
         Ok(_) => println!(rt; "accepted")?,
+        // printed and not passed on: the report tells refusals by their numbers
         Err(refusal) => println!(rt; "refused ({})", refusal.number())?,
     }
     Ok(years)
@@ -30,6 +31,7 @@ fn print_heading(rt: &impl Print, years: Years) -> io::Result<()> {
 // Prints a line for each age that has a row, and tells how many there are.
 fn print_rates(rt: &impl Print, table: &DatedTable) -> io::Result<u32> {
     let mut valued: u32 = 0;
+    // the table is asked by ages; nothing is indexed
     for age in 0..AGES {
         if let (Some(row), Ok(rates)) = (table.row(age), table.rates(age)) {
             println!(rt;
