@@ -1,11 +1,10 @@
 -- The search finds a shortest route, or a closed set.
-use Rattle.std.proofs.Common.{◌≡◌, ℕ, zero, suc, ◌+◌, ◌<◌, ◌≤◌, Bool, true, false, cond, ◌⊎◌, List, [], ◌∷◌, ◌++◌, length, sym, refl, ap, ◌∙◌, subst, inl, inr, append-nil, arith, length-append}
+use Rattle.std.proofs.Common.{◌≡◌, ℕ, zero, suc, ◌<◌, ◌≤◌, Bool, true, false, cond, ◌⊎◌, List, [], ◌∷◌, ◌++◌, length, sym, refl, ap, ◌∙◌, subst, inl, inr, append-nil, arith}
 use mathlib.Core.Bool.{false≢true}
 use Rattle.std.proofs.lemmas.Bool.{cases_eq}
 use Rattle.words.specs.Sweep.{sweep}
 use Rattle.groups.specs.Group.{Group}
 use Rattle.groups.specs.Sums.{above}
-use Rattle.flow.specs.Counts.{count, sum_n, bit}
 use Rattle.flow.specs.Flow.{Task, State, Closed}
 use Rattle.flow.specs.Levels.{within, met, At, MetAt}
 use Rattle.flow.specs.Routes.{Hop, Link, Route}
@@ -14,7 +13,8 @@ use Rattle.flow.specs.Outcomes.{way_to}
 use Rattle.flow.specs.Told.{told, search_of}
 use Rattle.flow.proofs.Counting.{count_most}
 use Rattle.flow.proofs.Rounds.{met_found, within_zero, within_found, within_up, at_least, met_least, early}
-use Rattle.flow.proofs.Visits.{Each, In, each_in, each_push, in_left, in_last, clash, Level, Reached, Tree, Done, Swept, Mid, Ended, Scanned, same_tree, settle, scan}
+use Rattle.flow.proofs.Starters.{length_starters, every_starter}
+use Rattle.flow.proofs.Visits.{Each, In, each_in, in_left, in_last, clash, Level, Reached, Tree, Done, Swept, Mid, Ended, Scanned, same_tree, settle, scan}
 
 module _ (G : Group) (t : Task G.Element) (s : State G.Element) where
   -- the tests that the state poses
@@ -146,23 +146,7 @@ module _ (G : Group) (t : Task G.Element) (s : State G.Element) where
       go (inr w) ih false f = ih (omega arith)
 
   starters_level : (b : ℕ) → b ≤ t.n → Each (Level G t s 0) (starters posed b)
-  unfolding sweep
-  starters_level zero l = tt
-  starters_level (suc b) l = go (starters_level b (omega arith)) (above G (s.g b)) refl
-    where
-      go : Each (Level G t s 0) (starters posed b) → (d : Bool) → above G (s.g b) ≡ d → Each (Level G t s 0) (cond d (starters posed b ++ (b ∷ [])) (starters posed b))
-      go ih true f = each_push (Level G t s 0) (starters posed b) b ih (omega arith, record { now = within_zero G t s b ∙ f; before = λ k lk. absurd (omega arith) })
-      go ih false f = ih
-
-  starters_count : (b : ℕ) → length (starters posed b) ≤ count b (λ j. above G (s.g j))
-  unfolding sum_n sweep
-  starters_count zero = omega arith
-  starters_count (suc b) = go (starters_count b) (above G (s.g b))
-    where
-      go : length (starters posed b) ≤ count b (λ j. above G (s.g j)) → (d : Bool)
-          → length (cond d (starters posed b ++ (b ∷ [])) (starters posed b)) ≤ count b (λ j. above G (s.g j)) + bit d
-      go ih true = omega (arith, ih, length-append (starters posed b) (b ∷ []))
-      go ih false = omega (arith, ih)
+  starters_level b l = every_starter posed (Level G t s 0) b (λ k q e. (omega arith, record { now = within_zero G t s k ∙ e; before = λ k lk. absurd (omega arith) }))
 
   begun : Between 0 0 (starters posed t.n) [] (fresh posed)
   begun =
@@ -175,7 +159,7 @@ module _ (G : Group) (t : Task G.Element) (s : State G.Element) where
         all = λ v l e. sym (within_zero G t s v) ∙ e;
         done = λ v l e. inr (inl (starters_in t.n v l e));
         swept = λ i l e. absurd (false≢true e);
-        tally = omega (arith, starters_count t.n);
+        tally = omega (arith, length_starters posed t.n);
       }
 
   after_all : (c : ℕ) → After c (turns posed c (fresh posed))

@@ -12,6 +12,7 @@ pub mod Reached
 pub mod Rounds
 pub mod Settled
 pub mod Shortfall
+pub mod Starters
 pub mod Steps
 pub mod Unrolled
 pub mod Visits

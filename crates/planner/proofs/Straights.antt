@@ -1,11 +1,12 @@
--- A search that ends in its first turn.
-use Rattle.std.proofs.Common.{◌≡◌, ℕ, zero, suc, ◌<◌, ◌≤◌, true, false, ◌&&◌, ◌⊎◌, List, [], ◌∷◌, get_or, set, replicate, cond, sym, refl, ap, ◌∙◌, subst, inl, inr, arith}
+-- A search that comes from a starting giver straight to a receiver who has something to get.
+use Rattle.std.proofs.Common.{◌≡◌, ℕ, zero, suc, ◌<◌, ◌≤◌, true, false, ◌&&◌, eqb, ◌⊎◌, List, [], ◌∷◌, get_or, set, replicate, cond, sym, refl, ap, ◌∙◌, subst, inl, inr, arith}
 use Rattle.std.proofs.lemmas.List.{get_or-set_same, get_or-set_other, length-set}
-use Rattle.std.proofs.lemmas.Bool.{and_parts, cases_eq, cases_lt, cond-true}
-use Rattle.words.specs.Words.{bit}
+use Rattle.std.proofs.lemmas.Bool.{and_parts, cases_eq, cases_lt, eq-eqb, ne_eqb, cond-true, cond-false}
+use Rattle.words.specs.Words.{bit, Lowest}
+use Rattle.words.proofs.Digits.{bit_zero}
 use Rattle.flow.specs.Routes.{Hop}
 use Rattle.flow.specs.Search.{Tests, Search, Ends, found, trace, search_all}
-use Rattle.flow.proofs.AtOnce.{at_once}
+use Rattle.flow.proofs.AtOnce.{Idle, at_once}
 use Rattle.flow.proofs.Visits.{clash}
 use Rattle.planner.specs.declared.state.Marks.{Marks}
 use Rattle.planner.specs.declared.state.Seek.{Seek}
@@ -30,16 +31,41 @@ inside v n k none e = go (cases_lt k n)
     go (inl l) = l
     go (inr l) = clash (bit v k) e (none k l)
 
--- the first giver with something to give, and the first permitted receiver who has something to get
-pub straight_ends : (w : Words) → (j v i : ℕ) → (j < 64) × (bit w.givers j ≡ true) × ((k : ℕ) → k < j → bit w.givers k ≡ false)
-    → ((a : ℕ) → bit v a ≡ (bit (get_or w.permitted j 0) a && bit w.takers a))
-    → (i < 64) × (bit v i ≡ true) × ((k : ℕ) → k < i → bit v k ≡ false) → Straight w j i
-straight_ends w j v i first both low =
-    let giver = inside w.givers w.n j w.fitted.givers first.1 in
-    let here = and_parts (bit (get_or w.permitted j 0) i) (bit w.takers i) (sym (both i) ∙ low.1) in
-    let receiver = inside (get_or w.permitted j 0) w.n i (w.fitted.permits j) here.0 in
-    let end = at_once (tests w) j giver first.1 first.2 i receiver here.0 here.1 (λ k l. sym (both k) ∙ low.2 k l) in
-    record { giver = giver; receiver = receiver; starts = first.1; ends = end.ends; from = end.from }
+-- the starting givers of the word v are still to be tried, and the others may give to nobody who has something to get
+pub record Untried (w : Words) (v : ℕ) : Type 0 where
+  pub among : (k : ℕ) → bit v k ≡ true → bit w.givers k ≡ true
+  pub idle : (k : ℕ) → bit w.givers k ≡ true → bit v k ≡ false → Idle (tests w) w.n k
+
+pub untried_all : (w : Words) → Untried w w.givers
+untried_all w = record { among = λ k e. e; idle = λ k e f. clash (bit w.givers k) e f }
+
+-- giver j is tried next; the word o has those who may receive from it and have something to get
+module _ (w : Words) (v j u : ℕ) (p : Untried w v) (low : Lowest v j u) (o : ℕ)
+    (both : (a : ℕ) → bit o a ≡ (bit (get_or w.permitted j 0) a && bit w.takers a)) where
+  -- they are none
+  pub untried_next : o ≡ 0 → Untried w u
+  untried_next none = record {
+    among = λ k e. p.among k (sym (other k (cases_eq k j) e) ∙ e);
+    idle = λ k e f. tried k e f (cases_eq k j);
+  }
+    where
+      other : (k : ℕ) → (k ≡ j) ⊎ (k ≡ j → ⊥) → bit u k ≡ true → bit u k ≡ bit v k
+      other k (inl e) t = clash (bit u k) t (low.rest k ∙ cond-true (eqb k j) false (bit v k) (eq-eqb k j e))
+      other k (inr e) t = low.rest k ∙ cond-false (eqb k j) false (bit v k) (ne_eqb k j e)
+
+      tried : (k : ℕ) → bit w.givers k ≡ true → bit u k ≡ false → (k ≡ j) ⊎ (k ≡ j → ⊥) → Idle (tests w) w.n k
+      tried k e f (inl s) = λ a l. ap (λ b. bit (get_or w.permitted b 0) a && bit w.takers a) s ∙ sym (both a) ∙ ap (λ x. bit x a) none ∙ bit_zero a
+      tried k e f (inr s) = p.idle k e (sym (low.rest k ∙ cond-false (eqb k j) false (bit v k) (ne_eqb k j s)) ∙ f)
+
+  -- the first of them is i
+  pub straight_ends : (i : ℕ) → (i < 64) × (bit o i ≡ true) × ((k : ℕ) → k < i → bit o k ≡ false) → Straight w j i
+  straight_ends i first =
+      let starts = p.among j low.set in
+      let giver = inside w.givers w.n j w.fitted.givers starts in
+      let here = and_parts (bit (get_or w.permitted j 0) i) (bit w.takers i) (sym (both i) ∙ first.1) in
+      let receiver = inside (get_or w.permitted j 0) w.n i (w.fitted.permits j) here.0 in
+      let end = at_once (tests w) j i receiver here.0 here.1 (λ k l. sym (both k) ∙ first.2 k l) giver starts (λ k l e. p.idle k e (low.below k l)) in
+      record { giver = giver; receiver = receiver; starts = starts; ends = end.ends; from = end.from }
 
 module _ (w : Words) (j i : ℕ) (s : Straight w j i) where
   abbrev straight : Marks

@@ -1,4 +1,4 @@
-ghost use Rattle.std.specs.Prelude.{◌≡◌, ℕ, ◌<◌, true, false, not, ◌&&◌, length, IfSome, slice_index};
+ghost use Rattle.std.specs.Prelude.{◌≡◌, ℕ, ◌<◌, true, false, not, ◌&&◌, length, IfSome, MatchOption, slice_index};
 ghost use Rattle.words.specs.Words.{bit};
 ghost use Rattle.flow.specs.Search.{Ends, searching, joined, noted, backs, outs, fresh as untouched};
 ghost use Rattle.planner.specs.Finds.{Finds, Leads, Straight};
@@ -172,19 +172,22 @@ fn wanting(w: &Words, j: usize) -> u64
 
 // The member of a set with the lowest number.
 fn lowest(members: u64) -> Option<usize>
-    ensures { IfSome result (λ k. (k < 64) × (bit members k ≡ true) × ((j : ℕ) → j < k → bit members j ≡ false)) }
+    ensures { MatchOption result (members ≡ 0) (λ k. (k < 64) × (bit members k ≡ true) × ((j : ℕ) → j < k → bit members j ≡ false)) }
 {
     Places(members).next()
 }
 
-// The first giver with something to give, and the first receiver permitted from it that has still to get. Where
-// there are both, a search comes to this receiver in its first turn.
+// The first giver with something to give who permits a receiver that has still to get, and the first such receiver.
+// A search comes to this receiver from this giver, whatever it sees before.
 fn at_once(w: &Words) -> Option<Link>
     ensures { IfSome result (λ l. Straight w.now l.giver l.receiver) }
 {
-    let giver = lowest(w.givers)?;
-    let receiver = lowest(wanting(w, giver))?;
-    Some(Link { giver, receiver })
+    for giver in Places(w.givers) {
+        if let Some(receiver) = lowest(wanting(w, giver)) {
+            return Some(Link { giver, receiver });
+        }
+    }
+    None
 }
 
 // The way of one link.
