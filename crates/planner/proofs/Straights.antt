@@ -1,6 +1,5 @@
 -- A search that comes from a starting giver straight to a receiver who has something to get.
-use Rattle.std.proofs.Common.{◌≡◌, ℕ, zero, suc, ◌<◌, ◌≤◌, true, false, ◌&&◌, eqb, ◌⊎◌, List, [], ◌∷◌, get_or, set, replicate, cond, sym, refl, ap, ◌∙◌, subst, inl, inr, arith}
-use Rattle.std.proofs.lemmas.List.{get_or-set_same, get_or-set_other, length-set}
+use Rattle.std.proofs.Common.{◌≡◌, ℕ, zero, suc, ◌<◌, ◌≤◌, true, false, ◌&&◌, eqb, ◌⊎◌, List, [], ◌∷◌, get_or, cond, None, sym, refl, ap, ◌∙◌, subst, inl, inr}
 use Rattle.std.proofs.lemmas.Bool.{and_parts, cases_eq, cases_lt, eq-eqb, ne_eqb, cond-true, cond-false}
 use Rattle.words.specs.Words.{bit, Lowest}
 use Rattle.words.proofs.Digits.{bit_zero}
@@ -13,8 +12,7 @@ use Rattle.planner.specs.declared.state.Seek.{Seek}
 use Rattle.planner.specs.declared.state.Words.{Words}
 use Rattle.planner.specs.Finds.{Straight}
 use Rattle.planner.specs.Model.{model, marked, tests}
-use Rattle.planner.specs.Inside.{Inside}
-use Rattle.planner.specs.Ways.{trail}
+use Rattle.planner.specs.Inside.{Inside, marks_of}
 use Rattle.planner.proofs.Starts.{zeros}
 
 -- a way back from a giver with something to give ends there
@@ -67,29 +65,21 @@ module _ (w : Words) (v j u : ℕ) (p : Untried w v) (low : Lowest v j u) (o : �
       let end = at_once (tests w) j i receiver here.0 here.1 (λ k l. sym (both k) ∙ first.2 k l) giver starts (λ k l e. p.idle k e (low.below k l)) in
       record { giver = giver; receiver = receiver; starts = starts; ends = end.ends; from = end.from }
 
-module _ (w : Words) (j i : ℕ) (s : Straight w j i) where
-  abbrev straight : Marks
-  straight = record { from = set (replicate 64 0) i j; via = replicate 64 0 }
+-- the way of one link, whatever marks are looked at
+pub straight_way : (w : Words) (j i : ℕ) → Straight w j i → (m : Marks)
+    → trace (tests w) w.n (search_all (tests w)) ((search_all (tests w)).from i) [] ≡ trace (tests w) w.n (marked m i) j []
+straight_way w j i s m =
+    ap (λ a. trace (tests w) w.n (search_all (tests w)) a []) s.from ∙ trace_here (tests w) w.n (search_all (tests w)) j [] s.starts
+    ∙ sym (trace_here (tests w) w.n (marked m i) j [] s.starts)
 
-  back : get_or (set (replicate 64 0) i j) i 0 ≡ j
-  back = get_or-set_same (replicate 64 0) i j 0 (omega (arith, s.receiver, w.fitted.size))
-
-  pub straight_way : trace (tests w) w.n (search_all (tests w)) ((search_all (tests w)).from i) [] ≡ trail w straight i
-  straight_way =
-      ap (λ a. trace (tests w) w.n (search_all (tests w)) a []) s.from ∙ trace_here (tests w) w.n (search_all (tests w)) j [] s.starts
-      ∙ sym (ap (λ a. trace (tests w) w.n (marked straight i) a []) back ∙ trace_here (tests w) w.n (marked straight i) j [] s.starts)
-
-  pub straight_inside : Inside w.n (set (replicate 64 0) i j) (replicate 64 0)
-  straight_inside = record {
-    froms = length-set (replicate 64 0) i j;
-    vias = refl;
-    sources = λ a p. source a (cases_eq a i) p;
-    bridges = λ a p. subst (λ b. b < w.n) (sym (zeros 64 a)) p;
-  }
-    where
-      source : (a : ℕ) → (a ≡ i) ⊎ (a ≡ i → ⊥) → 0 < w.n → get_or (set (replicate 64 0) i j) a 0 < w.n
-      source a (inl e) p = subst (λ b. b < w.n) (sym (ap (λ c. get_or (set (replicate 64 0) i j) c 0) e ∙ back)) s.giver
-      source a (inr e) p = subst (λ b. b < w.n) (sym (get_or-set_other (replicate 64 0) i a j 0 e ∙ zeros 64 a)) p
+-- no marks lead beyond the members
+pub none_inside : (n : ℕ) → Inside n (marks_of None).from (marks_of None).via
+none_inside n = record {
+  froms = refl;
+  vias = refl;
+  sources = λ a p. subst (λ b. b < n) (sym (zeros 64 a)) p;
+  bridges = λ a p. subst (λ b. b < n) (sym (zeros 64 a)) p;
+}
 
 -- a way back goes by the marks alone
 trace_marked : (t : Tests) (e : Ends) (q : Seek) (z b j : ℕ) (hs : List Hop) → trace t b (model e q) j hs ≡ trace t b (marked q.marks z) j hs
@@ -101,6 +91,6 @@ trace_marked t e q z (suc b) j hs =
 
 -- a whole search to receiver i has its way back
 pub search_way : (w : Words) (q : Seek) (i : ℕ) → model (found i) q ≡ search_all (tests w)
-    → trace (tests w) w.n (search_all (tests w)) ((search_all (tests w)).from i) [] ≡ trail w q.marks i
+    → trace (tests w) w.n (search_all (tests w)) ((search_all (tests w)).from i) [] ≡ trace (tests w) w.n (marked q.marks i) (get_or q.marks.from i 0) []
 search_way w q i e =
     sym (ap (λ r. trace (tests w) w.n r (r.from i) []) e) ∙ trace_marked (tests w) (found i) q i w.n (get_or q.marks.from i 0) []

@@ -13,7 +13,7 @@ use Rattle.planner.specs.Ways.{trail, least_along, fits_along, writable_along, m
 module _ {V : Type 0} {g : Ghosts V} (t : Tables V g) (y : Way) where
   -- the links of the way, from a giver who has something to give
   abbrev pub links : Links
-  links = trail t.words y.marks y.receiver
+  links = trail t.words y
 
   -- the least amount on them
   abbrev pub least_on : g.kind.group.Element

@@ -11,7 +11,7 @@ use Rattle.planner.specs.Ways.{trail}
 -- the search ends at the receiver of the way, which is its way back
 pub record Leads (w : Words) (y : Way) : Type 0 where
   pub ends : (search_all (tests w)).ends ≡ found y.receiver
-  pub way : trace (tests w) w.n (search_all (tests w)) ((search_all (tests w)).from y.receiver) [] ≡ trail w y.marks y.receiver
+  pub way : trace (tests w) w.n (search_all (tests w)) ((search_all (tests w)).from y.receiver) [] ≡ trail w y
   pub among : Among w y
 
 -- the search ends nowhere, and has reached these givers

@@ -5,6 +5,7 @@ use Rattle.planner.specs.declared.state.Link.{Link}
 use Rattle.planner.specs.declared.state.Words.{Words}
 use Rattle.planner.specs.declared.way.Hops.{Hops}
 use Rattle.planner.specs.declared.way.Way.{Way}
+use Rattle.planner.specs.Inside.{marks_of}
 
 -- the way is one among these members and givers
 pub record Among (w : Words) (y : Way) : Type 0 where
@@ -15,7 +16,7 @@ pub record Among (w : Words) (y : Way) : Type 0 where
 pub record Begins (y : Way) (s : Hops) : Type 0 where
   pub way : s.way.now ≡ y
   pub turns : s.turns ≡ y.members
-  pub giver : s.giver ≡ slice_index y.marks.from y.receiver
+  pub giver : s.giver ≡ y.last
 
 -- the way starts from the giver where the walk stands, or it is as long as it may be
 pub record Ends (s t : Hops) : Type 0 where
@@ -27,8 +28,8 @@ pub record GoesOn (s : Hops) (l : Link) (t : Hops) : Type 0 where
   pub turns : s.turns ≡ suc t.turns
   pub empty : bit s.way.now.givers s.giver ≡ false
   pub giver : l.giver ≡ s.giver
-  pub receiver : l.receiver ≡ slice_index s.way.now.marks.via s.giver
-  pub further : t.giver ≡ slice_index s.way.now.marks.from l.receiver
+  pub receiver : l.receiver ≡ slice_index (marks_of s.way.now.marks).via s.giver
+  pub further : t.giver ≡ slice_index (marks_of s.way.now.marks).from l.receiver
   pub way : t.way.now ≡ s.way.now
 
 -- what walking one link gives

@@ -1,13 +1,14 @@
 -- The way that a search found, and the step along it.
-use Rattle.std.specs.Prelude.{ℕ, Bool, ◌&&◌, List, [], ◌∷◌, slice_index}
+use Rattle.std.specs.Prelude.{ℕ, Bool, ◌&&◌, List, [], ◌∷◌}
 use Rattle.groups.specs.Group.{Group}
 use Rattle.groups.specs.Sums.{minus}
 use Rattle.flow.specs.Flow.{State}
 use Rattle.flow.specs.Routes.{Hop, bump, amount, augment, push, held_along}
-use Rattle.flow.specs.Search.{Way, trace}
+use Rattle.flow.specs.Search.{Way as Links, trace}
 use Rattle.amounts.specs.Kind.{Kind}
 use Rattle.planner.specs.declared.state.Words.{Words}
-use Rattle.planner.specs.declared.state.Marks.{Marks}
+use Rattle.planner.specs.declared.way.Way.{Way}
+use Rattle.planner.specs.Inside.{marks_of}
 use Rattle.planner.specs.Model.{marked, tests}
 
 -- an amount d that is written link by link, from the last receiver back to the first giver, is held at every link
@@ -18,29 +19,29 @@ held_back G held d v (h ∷ hs) z x =
     && (held (minus G (push G d h.to hs z x h.to h.over) d)
     && held (G.plus (bump G (push G d h.to hs z x) h.to h.over (G.neg d) v h.over) d))
 
--- the way back from receiver z to a starting giver
-abbrev pub trail : Words → Marks → ℕ → Way
-trail w m z = trace (tests w) w.n (marked m z) (slice_index m.from z) []
+-- the way back from its receiver to a starting giver
+abbrev pub trail : Words → Way → Links
+trail w y = trace (tests w) w.n (marked (marks_of y.marks) y.receiver) y.last []
 
 module _ {V : Type 0} (k : Kind V) where
   -- the least amount along a way
-  abbrev pub least_along : Way → State k.group.Element → ℕ → k.group.Element
+  abbrev pub least_along : Links → State k.group.Element → ℕ → k.group.Element
   least_along way s z = amount k.group s way.first way.hops z
 
   -- an amount d moved along a way leaves only amounts that are held
-  abbrev pub fits_along : Way → State k.group.Element → ℕ → k.group.Element → Bool
+  abbrev pub fits_along : Links → State k.group.Element → ℕ → k.group.Element → Bool
   fits_along way s z d =
       held_along k.group k.held d way.first way.hops z s.x
       && (k.held (minus k.group (s.g way.first) d) && k.held (minus k.group (s.r z) d))
 
   -- the transfers after an amount d was moved along a way
-  abbrev pub moved_along : Way → State k.group.Element → ℕ → k.group.Element → ℕ → ℕ → k.group.Element
+  abbrev pub moved_along : Links → State k.group.Element → ℕ → k.group.Element → ℕ → ℕ → k.group.Element
   moved_along way s z d = push k.group d way.first way.hops z s.x
 
   -- the state after the step along a way
-  abbrev pub stepped : Way → State k.group.Element → ℕ → State k.group.Element
+  abbrev pub stepped : Links → State k.group.Element → ℕ → State k.group.Element
   stepped way s z = augment k.group way.first way.hops z s
 
   -- written link by link, an amount d moved along a way is held at every link
-  abbrev pub writable_along : Way → State k.group.Element → ℕ → k.group.Element → Bool
+  abbrev pub writable_along : Links → State k.group.Element → ℕ → k.group.Element → Bool
   writable_along way s z d = held_back k.group k.held d way.first way.hops z s.x

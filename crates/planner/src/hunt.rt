@@ -152,7 +152,8 @@ fn search_all(w: &Words) -> Result<Way, u64>
     while let Some(j) = search.pop() {
         if let Some(receiver) = search.visit(j) {
             return Ok(Way {
-                marks: search.seek.marks,
+                last: usize::from(search.seek.marks.from[receiver]),
+                marks: Some(search.seek.marks),
                 receiver,
                 members: w.n,
                 givers: w.givers,
@@ -195,10 +196,9 @@ fn straight(w: &Words, link: Link) -> Way
     requires { Straight w.now link.giver link.receiver }
     ensures { Leads w.now result }
 {
-    let mut from = [0; 64];
-    from[link.receiver] = link.giver as u8; // no bit is lost, which is proved
     Way {
-        marks: Marks { from, via: [0; 64] },
+        marks: None,
+        last: link.giver,
         receiver: link.receiver,
         members: w.n,
         givers: w.givers,

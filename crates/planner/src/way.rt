@@ -1,19 +1,23 @@
-ghost use Rattle.std.specs.Prelude.{◌≡◌, ℕ, ◌<◌, ◌≤◌, slice_index};
+ghost use Rattle.std.specs.Prelude.{◌≡◌, ℕ, ◌<◌, ◌≤◌, true, None, slice_index};
 ghost use Rattle.std.specs.Iterator.{at_most};
-ghost use Rattle.planner.specs.Inside.{Inside};
+ghost use Rattle.words.specs.Words.{bit};
+ghost use Rattle.planner.specs.Inside.{Inside, marks_of};
 
 use crate::state::{Link, Marks};
 
-// The way that a search found back from a receiver, with the givers who have something to give.
+// The way that a search found back from a receiver to a giver who has something to give. A way of one link has no marks.
 #[derive(Drop)]
 pub(crate) struct Way {
-    pub(crate) marks: Marks,
+    pub(crate) marks: Option<Marks>,
+    pub(crate) last: usize,
     pub(crate) receiver: usize,
     pub(crate) members: usize,
     pub(crate) givers: u64,
     ghost size: { members ≤ 64 },
-    ghost inside: { Inside members marks.from marks.via },
+    ghost inside: { Inside members (marks_of marks).from (marks_of marks).via },
+    ghost seen: { last < members },
     ghost ends: { receiver < members },
+    ghost alone: { marks ≡ None → bit givers last ≡ true },
 }
 
 // A walk along a way, from its receiver back. Each link here is one whose transfer is taken back: from the
@@ -26,6 +30,7 @@ pub(crate) struct Hops<'a> {
     turns: usize,
     pub(crate) giver: usize,
     ghost inside: { giver < way.now.members },
+    ghost alone: { way.now.marks ≡ None → bit way.now.givers giver ≡ true },
 }
 
 impl Way {
@@ -38,7 +43,7 @@ impl Way {
         Hops {
             way: self,
             turns: self.members,
-            giver: usize::from(self.marks.from[self.receiver]),
+            giver: self.last,
         }
     }
 }
@@ -57,10 +62,11 @@ impl Iterator for Hops<'_> {
         if self.turns == 0 || words::has(self.way.givers, self.giver) {
             return None;
         }
+        let marks = self.way.marks.as_ref()?;
         let giver = self.giver;
-        let receiver = usize::from(self.way.marks.via[giver]);
+        let receiver = usize::from(marks.via[giver]);
         self.turns -= 1;
-        self.giver = usize::from(self.way.marks.from[receiver]);
+        self.giver = usize::from(marks.from[receiver]);
         Some(Link { giver, receiver })
     }
 }

@@ -1,6 +1,6 @@
-use Rattle.std.proofs.Common.{◌≡◌, sym, refl, ap, ◌∙◌, subst, ap₂, arith}
-use Rattle.flow.specs.Search.{searching, found, turns, fresh, outs, search_all}
-use Rattle.planner.specs.Model.{model, tests}
+use Rattle.std.proofs.Common.{◌≡◌, [], sym, refl, ap, ◌∙◌, subst, ap₂, arith}
+use Rattle.flow.specs.Search.{searching, found, turns, fresh, outs, trace, search_all}
+use Rattle.planner.specs.Model.{model, marked, tests}
 use Rattle.planner.proofs.Turns.{tail_most, turns_end, turn_made, turn_found}
 use Rattle.planner.proofs.Straights.{search_way}
 use Rattle.planner.proofs.hunt.search_all.Goals as goal
@@ -23,7 +23,7 @@ returns-in-Some-visit c =
     turn_found s.words.now s.seek s.sound taken.ahead stands i q visited ∙ ap (λ w. search_all (tests w)) c.loop-j.invariant.1 in
     record {
       ends = sym (ap (λ r. r.ends) whole);
-      way = search_way c.args.w.now q i whole;
+      way = search_way c.args.w.now q i whole ∙ ap (λ j. trace (tests c.args.w.now) c.args.w.now.n (marked q.marks i) j []) (sym c.from.ensures);
       among = record { members = refl; givers = refl };
     }
 

@@ -9,7 +9,7 @@ change-requires-clause-room g c =
     let k = g.K.Amount.kind in
     let t = c.args.self.now in
     let way = c.args.way.now in
-    let room = raise_room k t.words (state t) way.marks way.receiver (k.element c.args.d) c.requires.room c.loop-link.hops c.loop-link.i c.loop-link.self.transfers.now c.loop-link.invariant.0 in
+    let room = raise_room k t.words (state t) way (k.element c.args.d) c.requires.room c.loop-link.hops c.loop-link.i c.loop-link.self.transfers.now c.loop-link.invariant.0 in
     subst (λ j. k.held (k.group.plus (table k c.loop-link.self.transfers.now j c.loop-link.i) (k.element c.args.d)) ≡ true) (sym c.in-Some.ensures.steps.giver) room
 
 pub change-requires-in-Some-clause-room : goal.change-requires-in-Some-clause-room
@@ -17,14 +17,14 @@ change-requires-in-Some-clause-room g c =
     let k = g.K.Amount.kind in
     let t = c.args.self.now in
     let way = c.args.way.now in
-    lower_room k t.words (state t) way.marks way.receiver (k.element c.args.d) c.loop-link.hops c.next.new.self c.in-Some.link c.loop-link.i c.loop-link.self.transfers.now c.change.new.self.transfers.now c.in-Some.ensures.steps (among_inside t.words way c.requires.way) c.loop-link.invariant.0 c.change.ensures.done c.requires.room
+    lower_room k t.words (state t) way (k.element c.args.d) c.loop-link.hops c.next.new.self c.in-Some.link c.loop-link.i c.loop-link.self.transfers.now c.change.new.self.transfers.now c.in-Some.ensures.steps (among_inside t.words way c.requires.way) c.loop-link.invariant.0 c.change.ensures.done c.requires.room
 
 pub loop-link-preserved : goal.loop-link-preserved
 loop-link-preserved g c =
     let k = g.K.Amount.kind in
     let t = c.args.self.now in
     let way = c.args.way.now in (
-      moved_next k t.words (state t) way.marks way.receiver (k.element c.args.d) c.loop-link.hops c.next.new.self c.in-Some.link c.loop-link.i c.loop-link.self.transfers.now c.change.new.self.transfers.now c.in-Some.ensures.steps (among_inside t.words way c.requires.way) c.loop-link.invariant.0 c.change.ensures.done g.met.K.Amount.lawful.ordered c.change-in-Some.new.self.transfers.now c.change-in-Some.ensures.done,
+      moved_next k t.words (state t) way (k.element c.args.d) c.loop-link.hops c.next.new.self c.in-Some.link c.loop-link.i c.loop-link.self.transfers.now c.change.new.self.transfers.now c.in-Some.ensures.steps (among_inside t.words way c.requires.way) c.loop-link.invariant.0 c.change.ensures.done g.met.K.Amount.lawful.ordered c.change-in-Some.new.self.transfers.now c.change-in-Some.ensures.done,
       search rules,
       c.change-in-Some.ensures.gives ∙ c.change.ensures.gives ∙ c.loop-link.invariant.2,
       c.change-in-Some.ensures.gets ∙ c.change.ensures.gets ∙ c.loop-link.invariant.3,
@@ -35,7 +35,7 @@ change-requires-2-clause-room g c =
     let k = g.K.Amount.kind in
     let t = c.args.self.now in
     let way = c.args.way.now in
-    let room = raise_room k t.words (state t) way.marks way.receiver (k.element c.args.d) c.requires.room c.loop-link.hops c.loop-link.i c.loop-link.self.transfers.now c.loop-link.invariant.0 in
+    let room = raise_room k t.words (state t) way (k.element c.args.d) c.requires.room c.loop-link.hops c.loop-link.i c.loop-link.self.transfers.now c.loop-link.invariant.0 in
     subst (λ j. k.held (k.group.plus (table k c.loop-link.self.transfers.now j c.loop-link.i) (k.element c.args.d)) ≡ true) (sym c.in_default.ensures.steps.giver) room
 
 pub returns-clause-giver : goal.returns-clause-giver
@@ -44,8 +44,8 @@ returns-clause-giver g c =
     let t = c.args.self.now in
     let way = c.args.way.now in
     let p = c.loop-link.invariant.0 in (
-      (back_end t.words way.marks way.receiver c.loop-link.hops c.next.new.self p.hops c.in_default.ensures.steps p.back).0,
-      (moved_end k t.words (state t) way.marks way.receiver (k.element c.args.d) c.loop-link.hops c.next.new.self c.loop-link.i c.loop-link.self.transfers.now c.change-2.new.self.transfers.now c.in_default.ensures.steps p c.change-2.ensures.done).0,
+      (back_end t.words way c.loop-link.hops c.next.new.self p.hops c.in_default.ensures.steps p.back).0,
+      (moved_end k t.words (state t) way (k.element c.args.d) c.loop-link.hops c.next.new.self c.loop-link.i c.loop-link.self.transfers.now c.change-2.new.self.transfers.now c.in_default.ensures.steps p c.change-2.ensures.done).0,
     )
 
 pub returns-clause-moved : goal.returns-clause-moved
@@ -53,4 +53,4 @@ returns-clause-moved g c =
     let k = g.K.Amount.kind in
     let t = c.args.self.now in
     let way = c.args.way.now in
-    (moved_end k t.words (state t) way.marks way.receiver (k.element c.args.d) c.loop-link.hops c.next.new.self c.loop-link.i c.loop-link.self.transfers.now c.change-2.new.self.transfers.now c.in_default.ensures.steps c.loop-link.invariant.0 c.change-2.ensures.done).1
+    (moved_end k t.words (state t) way (k.element c.args.d) c.loop-link.hops c.next.new.self c.loop-link.i c.loop-link.self.transfers.now c.change-2.new.self.transfers.now c.in_default.ensures.steps c.loop-link.invariant.0 c.change-2.ensures.done).1

@@ -21,28 +21,26 @@ pub loop-link-preserved : goal.loop-link-preserved
 loop-link-preserved g c =
     let t = c.args.self.now in
     let way = c.args.way.now in
-    let q = way.marks in
     let h = c.loop-link.hops in
     let l = c.in-Some.link in
     let p = c.loop-link.invariant in
     let goes = c.in-Some.ensures.steps in
-    let inside = link_inside t.words q way.receiver h c.next.new.self l p.hops goes p.back (among_inside t.words way c.requires) in
+    let inside = link_inside t.words way h c.next.new.self l p.hops goes p.back (among_inside t.words way c.requires) in
     let has = transfer_at t l.giver l.receiver c.index-self-link.result inside.0 inside.1 in
     let less = c.lesser-d.ensures.stands has.0 p.good in
-    least_next g.K.Amount.kind t.words (state t) q way.receiver h c.next.new.self l c.loop-link.d _ c.lesser-d.result (among_inside t.words way c.requires) goes has.1 less.0 less.1 p
+    least_next g.K.Amount.kind t.words (state t) way h c.next.new.self l c.loop-link.d _ c.lesser-d.result (among_inside t.words way c.requires) goes has.1 less.0 less.1 p
 
 pub returns : goal.returns
 returns g c =
     let t = c.args.self.now in
     let way = c.args.way.now in
-    let q = way.marks in
     let h = c.loop-link.hops in
     let p = c.loop-link.invariant in
     let ends = c.in_default.ensures.steps in
-    let end = back_end t.words q way.receiver h c.next.new.self p.hops ends p.back in
+    let end = back_end t.words way h c.next.new.self p.hops ends p.back in
     let has = give_at t c.next.new.self.giver c.index-self-hops.result end.0 in
     let less = c.lesser.ensures.stands has.0 p.good in
     record {
       value = less.0;
-      least = least_end g.K.Amount.kind t.words (state t) q way.receiver h c.next.new.self c.loop-link.d _ c.lesser.result ends p has.1 less.1;
+      least = least_end g.K.Amount.kind t.words (state t) way h c.next.new.self c.loop-link.d _ c.lesser.result ends p has.1 less.1;
     }
