@@ -29,7 +29,7 @@ module _ (w : Words) (y : Way) where
   pub record Back (s : Hops) (hs : List Hop) : Type 0 where
     pub on : On s.turns s.giver hs
     pub inside : s.giver < w.n
-    pub way : s.way.now ≡ y
+    pub way : s.way ≡ y
     pub givers : y.givers ≡ w.givers
 
   -- the hop of a link
@@ -70,7 +70,7 @@ module _ (w : Words) (y : Way) where
   unfolding trace
   back_end s t hs e p = (subst (λ j. j < w.n) (sym e.giver) p.inside, p.on ∙ go s.turns e.starts ∙ ap (λ j. record { first = j; hops = hs }) (sym e.giver))
     where
-      go : (m : ℕ) → (m ≡ 0) ⊎ (bit s.way.now.givers s.giver ≡ true) → trace (tests w) m (marked (marks_of y.marks) y.receiver) s.giver hs ≡ record { first = s.giver; hops = hs }
+      go : (m : ℕ) → (m ≡ 0) ⊎ (bit s.way.givers s.giver ≡ true) → trace (tests w) m (marked (marks_of y.marks) y.receiver) s.giver hs ≡ record { first = s.giver; hops = hs }
       go zero e = refl
       go (suc m) (inl e) = absurd (omega arith)
       go (suc m) (inr e) = cond-true (bit w.givers s.giver) (record { first = s.giver; hops = hs }) _ (sym (ap (λ v. bit v s.giver) (ap (λ c. c.givers) p.way ∙ p.givers)) ∙ e)

@@ -39,10 +39,7 @@ impl<'a> Search<'a> {
                 tail,
                 reached: words.givers,
                 seen: 0,
-                marks: Marks {
-                    from: [0; 64],
-                    via: [0; 64],
-                },
+                marks: Marks::none(),
             },
         }
     }
@@ -144,16 +141,17 @@ impl<'a> Search<'a> {
 }
 
 // Visits one giver after another from the queue's front, until a receiver is found or the queue is empty.
-fn search_all(w: &Words) -> Result<Way, u64>
+fn search_all<'a>(w: &Words, marks: &'a mut Marks) -> Result<Way<'a>, u64>
     ensures { Finds w.now result }
 {
     let mut search = Search::start(w);
     // the queue grows while it is emptied, so there is nothing to iterate over
     while let Some(j) = search.pop() {
         if let Some(receiver) = search.visit(j) {
+            *marks = search.seek.marks;
             return Ok(Way {
-                last: usize::from(search.seek.marks.from[receiver]),
-                marks: Some(search.seek.marks),
+                last: usize::from(marks.from[receiver]),
+                marks: Some(marks),
                 receiver,
                 members: w.n,
                 givers: w.givers,
@@ -192,7 +190,7 @@ fn at_once(w: &Words) -> Option<Link>
 }
 
 // The way of one link.
-fn straight(w: &Words, link: Link) -> Way
+fn straight(w: &Words, link: Link) -> Way<'static>
     requires { Straight w.now link.giver link.receiver }
     ensures { Leads w.now result }
 {
@@ -207,11 +205,11 @@ fn straight(w: &Words, link: Link) -> Way
 
 // The way that the search of a step finds, or else the givers whom it reached. It is searched for only where it is not
 // found at once.
-pub(crate) fn find(w: &Words) -> Result<Way, u64>
+pub(crate) fn find<'a>(w: &Words, marks: &'a mut Marks) -> Result<Way<'a>, u64>
     ensures { Finds w.now result }
 {
     match at_once(w) {
         Some(link) => Ok(straight(w, link)),
-        None => search_all(w),
+        None => search_all(w, marks),
     }
 }

@@ -8,6 +8,7 @@ ghost use Rattle.planner.specs.Tables.{row};
 
 use crate::answer::Answer;
 use crate::hunt::find;
+use crate::state::Marks;
 use crate::tables::Tables;
 use amounts::Amount;
 
@@ -39,8 +40,9 @@ impl<K: Amount> Tables<'_, K> {
     {
         // Nothing is counted but the steps that are told: that they end is a bound on the run itself.
         let mut steps = 0;
+        let mut marks = Marks::none();
         'turn: loop {
-            let way = match find(&self.words) {
+            let way = match find(&self.words, &mut marks) {
                 Ok(way) => way,
                 Err(_) if self.words.givers == 0 => return Answer::Plan { steps },
                 Err(reached) => return blocked(steps, reached),

@@ -1,3 +1,4 @@
+ghost use Rattle.std.specs.Prelude.{◌≡◌, replicate};
 ghost use Rattle.planner.specs.Fitted.{Fitted};
 
 // A set of members is a word of 64 bits, member k at place k. What is known of each member stands in a table of 64, one
@@ -19,6 +20,18 @@ pub(crate) struct Words {
 pub(crate) struct Marks {
     pub(crate) from: [u8; 64],
     pub(crate) via: [u8; 64],
+}
+
+impl Marks {
+    // Nobody marked.
+    pub(crate) fn none() -> Marks
+        ensures { result ≡ record { from = replicate 64 0; via = replicate 64 0 } }
+    {
+        Marks {
+            from: [0; 64],
+            via: [0; 64],
+        }
+    }
 }
 
 // Where a search stands. The queue has 64 places, since nothing is put on a heap.

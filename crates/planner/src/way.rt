@@ -6,9 +6,9 @@ ghost use Rattle.planner.specs.Inside.{Inside, marks_of};
 use crate::state::{Link, Marks};
 
 // The way that a search found back from a receiver to a giver who has something to give. A way of one link has no marks.
-#[derive(Drop)]
-pub(crate) struct Way {
-    pub(crate) marks: Option<Marks>,
+#[derive(Clone, Copy)]
+pub(crate) struct Way<'a> {
+    pub(crate) marks: Option<&'a Marks>,
     pub(crate) last: usize,
     pub(crate) receiver: usize,
     pub(crate) members: usize,
@@ -26,22 +26,22 @@ pub(crate) struct Way {
 // proof loses what the walk keeps.
 #[derive(Drop)]
 pub(crate) struct Hops<'a> {
-    way: &'a Way,
+    way: Way<'a>,
     turns: usize,
     pub(crate) giver: usize,
-    ghost inside: { giver < way.now.members },
-    ghost alone: { way.now.marks ≡ None → bit way.now.givers giver ≡ true },
+    ghost inside: { giver < way.members },
+    ghost alone: { way.marks ≡ None → bit way.givers giver ≡ true },
 }
 
-impl Way {
+impl<'a> Way<'a> {
     ghost use Rattle.planner.specs.Hops.{Begins};
 
     // A walk that begins at the giver from whom the receiver was seen.
-    pub(crate) fn hops(&self) -> Hops<'_>
+    pub(crate) fn hops(&self) -> Hops<'a>
         ensures { Begins self.now result }
     {
         Hops {
-            way: self,
+            way: *self,
             turns: self.members,
             giver: self.last,
         }
@@ -62,7 +62,7 @@ impl Iterator for Hops<'_> {
         if self.turns == 0 || words::has(self.way.givers, self.giver) {
             return None;
         }
-        let marks = self.way.marks.as_ref()?;
+        let marks = self.way.marks?;
         let giver = self.giver;
         let receiver = usize::from(marks.via[giver]);
         self.turns -= 1;

@@ -28,9 +28,9 @@ loop-k-preserved c = (
 pub invariant_of-result : goal.invariant_of-result
 invariant_of-result c =
     let b = subst (λ v. Starting c.args.words.now v (take c.loop-k.tail c.loop-k.queue)) c.in-None.ensures.steps c.loop-k.invariant.0 in
-    record { sound = begun_sound c.args.words.now c.loop-k.queue c.loop-k.tail b c.loop-k.invariant.1 c.loop-k.invariant.2 c.loop-k.invariant.3 }
+    record { sound = rw c.none.ensures (begun_sound c.args.words.now c.loop-k.queue c.loop-k.tail b c.loop-k.invariant.1 c.loop-k.invariant.2 c.loop-k.invariant.3) }
 
 pub returns-clause-stands : goal.returns-clause-stands
 returns-clause-stands c =
     let b = subst (λ v. Starting c.args.words.now v (take c.loop-k.tail c.loop-k.queue)) c.in-None.ensures.steps c.loop-k.invariant.0 in
-    begun_model c.args.words.now c.loop-k.queue c.loop-k.tail b c.loop-k.invariant.1 c.loop-k.invariant.2
+    rw c.none.ensures (begun_model c.args.words.now c.loop-k.queue c.loop-k.tail b c.loop-k.invariant.1 c.loop-k.invariant.2)
