@@ -4,17 +4,13 @@ use mathlib.Core.Path.{fun_ext}
 use Rattle.std.proofs.lemmas.Bool.{cases_eq, eq-eqb, ne_eqb, and_from, and_left, and_right, cond-true, cond-false}
 use Rattle.groups.specs.Sums.{minus}
 use Rattle.flow.specs.Routes.{bump, taken}
-use Rattle.amounts.specs.Kind.{Kind, Stands, StandsFor, sound}
+use Rattle.amounts.specs.Kind.{Kind, Stands, StandsFor}
 use Rattle.planner.specs.declared.change.Change.{Change}
 use Rattle.planner.specs.Changes.{changed, Changed}
 use Rattle.planner.specs.Tables.{row, table}
 use Rattle.planner.proofs.Entries.{row_here, row_else, table_here, table_else}
 
 module _ {V : Type 0} (k : Kind V) where
-  -- where both numbers are values, the test is that the element is held
-  pub stands_held : (a b : V) (e : k.group.Element) (r : Option V) → k.value a ≡ true → k.value b ≡ true → Stands k (sound k a b e) e r → Stands k (k.held e) e r
-  stands_held a b e r p q h = subst (λ t. Stands k t e r) (ap₂ (λ u v. (u && v) && k.held e) p q) h
-
   given : (test : Bool) (e : k.group.Element) (r : Option V) → test ≡ true → Stands k test e r → is_some r ≡ true
   given test e None t p = absurd (true≢false (sym t ∙ p))
   given test e (Some v) t p = refl

@@ -12,16 +12,17 @@ pub(crate) enum Change<K: Amount> {
 
 impl<K: Amount> Change<K> {
     // What the change makes of an amount; nothing where that is not held.
-    #[tactic(auto, using(crate::proofs::Bumped::stands_held))]
     pub(crate) fn of(self, amount: K) -> Option<K>
         requires amount { K.Amount.kind.value amount ≡ true }
         requires change { K.Amount.kind.value (amount_of self) ≡ true }
         ensures { Changed K.Amount.kind self (K.Amount.kind.element amount) result }
     {
+        // both are values, so that only what the change makes of them is tried
         match self {
-            Change::Add(d) => amount.sum(d),
-            Change::Take(d) => amount.difference(d),
+            Change::Add(d) => amount.checked_add(d),
+            Change::Take(d) => amount.checked_sub(d),
         }
+        .filter(|left| left.is_value())
     }
 
     // Whether what the change makes of an amount is held.
