@@ -36,11 +36,9 @@ pub trait Amount: Copy {
     fn is_value(self) -> bool
         ensures { result ≡ kind.value self };
 
-    // Below, equal or above by the order of the elements for which two values stand.
+    // Below, equal or above by the order of the elements for which two values stand; of what is no value nothing is said.
     fn ranked(self, other: Self) -> Ordering
-        requires mine { kind.value self ≡ true }
-        requires theirs { kind.value other ≡ true }
-        ensures { result ≡ order kind.group (kind.element self) (kind.element other) };
+        ensures { kind.value self ≡ true → kind.value other ≡ true → result ≡ order kind.group (kind.element self) (kind.element other) };
 
     // Below, equal or above by the group's order; equal where one is no value, as the rules say, for which there is no derive.
     fn compare(self, other: Self) -> Ordering
@@ -76,10 +74,10 @@ pub trait Amount: Copy {
     fn difference(self, other: Self) -> Option<Self>
         ensures { Difference kind self other result }
     {
-        if !self.is_value() || !other.is_value() {
-            return None;
-        }
-        self.checked_sub(other).filter(|rest| rest.is_value())
+        // `&`, and no `&&`, which would be a branch of its own for each test
+        let values = self.is_value() & other.is_value();
+        self.checked_sub(other)
+            .filter(|rest| values & rest.is_value())
     }
 
     // Writes the text of a value at the start of a buffer that has room for it, and answers its length.
