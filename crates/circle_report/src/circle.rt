@@ -3,7 +3,7 @@
 use amounts::{Amount, Drift};
 use anyhow::{Context, bail};
 use circles::Circle;
-use planner::Answer;
+use planner::{Answer, PAIRS};
 use samples::{MemberSet, weight_of};
 use tables::DatedTable;
 
@@ -79,8 +79,12 @@ fn bar(rt: &impl Print, circle: &mut Circle, giver: usize, receiver: usize) -> a
 // Tells whether the circle stays plannable just after its date.
 fn print_outlook(rt: &impl Print, circle: &Circle) -> anyhow::Result<()> {
     let zero = Drift::zero();
-    let mut transfers = [zero; 4096];
-    match circle.outlook(&mut transfers, &mut [zero; 64], &mut [zero; 64])? {
+    let mut transfers = [zero; PAIRS];
+    match circle.outlook(
+        &mut transfers,
+        &mut [zero; planner::MEMBERS],
+        &mut [zero; planner::MEMBERS],
+    )? {
         Answer::Plan { steps } => {
             println!(rt; "  just after its date it stays plannable, found in {steps} steps")?;
             let first = transfers[1];

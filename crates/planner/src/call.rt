@@ -4,7 +4,7 @@ ghost use Rattle.planner.specs.Calls.{plan_refusal, Planned, BeyondIgnored};
 ghost use Rattle.planner.specs.Tables.{row, values};
 
 use crate::answer::Answer;
-use crate::checks::check;
+use crate::checks::{MEMBERS, check};
 use crate::state::Words;
 use crate::tables::Tables;
 use amounts::Amount;
@@ -22,14 +22,14 @@ fn clear<K: Amount>(amounts: &mut [K])
 }
 
 // The permission words of n givers, without places beyond n.
-fn rules(n: usize, permissions: &[u64]) -> [u64; 64]
+fn rules(n: usize, permissions: &[u64]) -> [u64; MEMBERS]
     requires size { n ≤ 64 }
     requires rows { n ≤ length permissions.now }
     ensures size { length result ≡ 64 }
     ensures rules { (j i : ℕ) → bit (slice_index result j) i ≡ (nat_lt j n && (nat_lt i n && bit (slice_index permissions.now j) i)) }
 {
     let all = words::first(n);
-    let mut r = [0; 64];
+    let mut r = [0; MEMBERS];
     // `r[j]` is written by index: a proof cannot name `r` in a loop over its `iter_mut`, and of `array::from_fn`, which was
     // tried too, the words that it makes stayed open.
     for (j, word) in permissions[..n].iter().enumerate() {
@@ -79,7 +79,7 @@ fn start<K: Amount>(
         permitted: rules(n, permissions),
         givers: 0,
         takers: 0,
-        holders: [0; 64],
+        holders: [0; MEMBERS],
     };
     let mut tables = Tables {
         words,

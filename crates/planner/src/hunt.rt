@@ -4,6 +4,7 @@ ghost use Rattle.flow.specs.Search.{Ends, searching, joined, noted, backs, outs,
 ghost use Rattle.planner.specs.Finds.{Finds, Leads, Straight};
 ghost use Rattle.planner.specs.Model.{model, tests, Sound, Popped, ending, Within};
 
+use crate::checks::MEMBERS;
 use crate::state::{Link, Marks, Seek, Words};
 use crate::way::Way;
 use words::Places;
@@ -25,7 +26,7 @@ impl<'a> Search<'a> {
         ensures words { result.words.now ≡ words.now }
     {
         // the places are counted, since the search goes on from the queue's end
-        let mut queue = [0; 64];
+        let mut queue = [0; MEMBERS];
         let mut tail = 0;
         for k in Places(words.givers) {
             queue[tail] = k as u8; // no bit is lost, which is proved

@@ -1,15 +1,17 @@
 ghost use Rattle.std.specs.Prelude.{◌≡◌, replicate};
 ghost use Rattle.planner.specs.Fitted.{Fitted};
 
+use crate::checks::MEMBERS;
+
 // A set of members is a word of 64 bits, member k at place k. What is known of each member stands in a table of 64, one
 // for each place of a word, since there is no heap.
 #[derive(Drop)]
 pub(crate) struct Words {
     pub(crate) n: usize,
-    pub(crate) permitted: [u64; 64],
+    pub(crate) permitted: [u64; MEMBERS],
     pub(crate) givers: u64,
     pub(crate) takers: u64,
-    pub(crate) holders: [u64; 64],
+    pub(crate) holders: [u64; MEMBERS],
     ghost fitted: { Fitted n permitted givers holders },
 }
 
@@ -18,8 +20,8 @@ pub(crate) struct Words {
 // them, as it is proved that no bit is lost, and `try_from` would answer a Result to take apart.
 #[derive(Drop)]
 pub(crate) struct Marks {
-    pub(crate) from: [u8; 64],
-    pub(crate) via: [u8; 64],
+    pub(crate) from: [u8; MEMBERS],
+    pub(crate) via: [u8; MEMBERS],
 }
 
 impl Marks {
@@ -28,8 +30,8 @@ impl Marks {
         ensures { result ≡ record { from = replicate 64 0; via = replicate 64 0 } }
     {
         Marks {
-            from: [0; 64],
-            via: [0; 64],
+            from: [0; MEMBERS],
+            via: [0; MEMBERS],
         }
     }
 }
@@ -37,7 +39,7 @@ impl Marks {
 // Where a search stands. The queue has 64 places, since nothing is put on a heap.
 #[derive(Drop)]
 pub(crate) struct Seek {
-    pub(crate) queue: [u8; 64],
+    pub(crate) queue: [u8; MEMBERS],
     pub(crate) head: usize,
     pub(crate) tail: usize,
     pub(crate) reached: u64,

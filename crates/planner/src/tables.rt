@@ -3,6 +3,7 @@ ghost use Rattle.words.specs.Words.{bit};
 ghost use Rattle.groups.specs.Sums.{above};
 ghost use Rattle.planner.specs.Step.{InStep};
 
+use crate::checks::MEMBERS;
 use crate::state::Words;
 use amounts::Amount;
 
@@ -57,7 +58,13 @@ impl<K: Amount> Tables<'_, K> {
         ensures givers { self.new.words.givers ≡ self.old.words.givers }
     {
         let words = &mut self.words;
-        write(self.transfers, 64 * j + i, amount, &mut words.holders[i], j);
+        write(
+            self.transfers,
+            MEMBERS * j + i,
+            amount,
+            &mut words.holders[i],
+            j,
+        );
     }
 
     // Writes what giver j has still to give.

@@ -7,6 +7,7 @@ ghost use Rattle.planner.specs.Same.{Same, state};
 ghost use Rattle.planner.specs.Tables.{table};
 
 use crate::change::Change;
+use crate::checks::MEMBERS;
 use crate::tables::Tables;
 use crate::way::Way;
 use amounts::{Amount, lesser};
@@ -27,7 +28,7 @@ impl<K: Amount> Tables<'_, K> {
         let mut hops = way.hops();
         // no `for`: where the walk ends is read afterwards
         while let Some(link) = hops.next() {
-            d = lesser(self.transfers[64 * link.giver + link.receiver], d);
+            d = lesser(self.transfers[MEMBERS * link.giver + link.receiver], d);
         }
         lesser(self.to_give[hops.giver], d)
     }
@@ -44,12 +45,12 @@ impl<K: Amount> Tables<'_, K> {
         let mut hops = way.hops();
         // no `for`: where the walk ends is read afterwards
         while let Some(link) = hops.next() {
-            fits &= Change::Add(d).is_held(self.transfers[64 * link.giver + i]);
-            fits &= Change::Take(d).is_held(self.transfers[64 * link.giver + link.receiver]);
+            fits &= Change::Add(d).is_held(self.transfers[MEMBERS * link.giver + i]);
+            fits &= Change::Take(d).is_held(self.transfers[MEMBERS * link.giver + link.receiver]);
             i = link.receiver;
         }
         let j = hops.giver;
-        fits & Change::Add(d).is_held(self.transfers[64 * j + i])
+        fits & Change::Add(d).is_held(self.transfers[MEMBERS * j + i])
             & Change::Take(d).is_held(self.to_give[j])
             & Change::Take(d).is_held(self.to_get[way.receiver])
     }
@@ -66,7 +67,7 @@ impl<K: Amount> Tables<'_, K> {
         ensures gets { self.new.to_get.now ≡ self.old.to_get.now }
         ensures givers { self.new.words.givers ≡ self.old.words.givers }
     {
-        let left = change.of(self.transfers[64 * j + i]).unwrap();
+        let left = change.of(self.transfers[MEMBERS * j + i]).unwrap();
         self.put_transfer(j, i, left);
     }
 
