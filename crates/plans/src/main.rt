@@ -7,7 +7,7 @@ mod circles;
 
 use amounts::{Amount, Money};
 use anyhow::Context;
-use planner::{Answer, plan};
+use planner::{Answer, MEMBERS, PAIRS, plan};
 use refusals::Refusal;
 use samples::MemberSet;
 use std::{io, iter};
@@ -16,34 +16,37 @@ use std::{io, iter};
 #[derive(Drop)]
 struct Circle<K> {
     n: usize,
-    weights: [K; 64],
-    words: [u64; 64],
-    transfers: [K; 4096],
-    to_give: [K; 64],
-    to_get: [K; 64],
+    weights: [K; MEMBERS],
+    words: [u64; MEMBERS],
+    transfers: [K; PAIRS],
+    to_give: [K; MEMBERS],
+    to_get: [K; MEMBERS],
 }
 
 impl<K: Amount + Drop> Circle<K> {
-    // A circle of up to 64 members, each with its weight and its permission word.
-    fn of<I: Iterator<Item = (K, u64)> + Drop>(members: I) -> Circle<K>
+    // A circle of nobody. It is filled where it stands, since its tables are large to hand on.
+    fn new() -> Circle<K> {
+        let zero = K::zero();
+        Circle {
+            n: 0,
+            weights: [zero; MEMBERS],
+            words: [0; MEMBERS],
+            transfers: [zero; PAIRS],
+            to_give: [zero; MEMBERS],
+            to_get: [zero; MEMBERS],
+        }
+    }
+
+    // Makes it a circle of up to 64 members, each with its weight and its permission word.
+    fn fill<I: Iterator<Item = (K, u64)> + Drop>(&mut self, members: I)
         requires can { I.can_next members }
         requires ends { IsFinite (I.remaining members) }
     {
-        let zero = K::zero();
-        let mut circle = Circle {
-            n: 0,
-            weights: [zero; 64],
-            words: [0; 64],
-            transfers: [zero; 4096],
-            to_give: [zero; 64],
-            to_get: [zero; 64],
-        };
-        let rows = circle.weights.iter_mut().zip(circle.words.iter_mut());
-        for (n, ((weight, word), member)) in (1..=64).zip(rows.zip(members)) {
-            circle.n = n;
+        let rows = self.weights.iter_mut().zip(self.words.iter_mut());
+        for (n, ((weight, word), member)) in (1..=MEMBERS).zip(rows.zip(members)) {
+            self.n = n;
             (*weight, *word) = member;
         }
-        circle
     }
 
     fn plan(&mut self) -> Result<Answer, Refusal> {
@@ -70,11 +73,10 @@ fn print_answer(rt: &impl Print, answer: Answer) -> io::Result<()> {
 }
 
 fn print_transfers(rt: &impl Print, circle: &Circle<Money>) -> io::Result<()> {
-    for (giver, row) in (1..=64u64).zip(circle.transfers.chunks(64)) {
-        for (receiver, amount) in (1..=64u64).zip(row) {
-            if amount.0 > 0 {
-                println!(rt; "  {giver} to {receiver}: {}", amount.0)?;
-            }
+    for (place, amount) in circle.transfers.iter().enumerate() {
+        if amount.0 > 0 {
+            let (giver, receiver) = (place / MEMBERS + 1, place % MEMBERS + 1);
+            println!(rt; "  {giver} to {receiver}: {}", amount.0)?;
         }
     }
     Ok(())
@@ -84,8 +86,8 @@ fn print_transfers(rt: &impl Print, circle: &Circle<Money>) -> io::Result<()> {
 const PRIME: u64 = 1_000_000_007;
 
 // A number that tells tables of transfers apart.
-fn checksum(transfers: &[Money; 4096]) -> u64 {
-    (1..=4096u64)
+fn checksum(transfers: &[Money; PAIRS]) -> u64 {
+    (1..=u64::MAX)
         .zip(transfers)
         .fold(0, |sum: u64, (place, amount)| {
             (sum % PRIME + place % PRIME * (amount.0 % PRIME)) % PRIME
@@ -95,7 +97,8 @@ fn checksum(transfers: &[Money; 4096]) -> u64 {
 fn print_small(rt: &impl Print) -> anyhow::Result<()> {
     for (number, members) in (1..=u64::MAX).zip(circles::CIRCLES) {
         let members = members.iter().map(|(weight, word)| (Money(*weight), *word));
-        let mut circle = Circle::of(members);
+        let mut circle = Circle::new();
+        circle.fill(members);
         let answer = circle.plan().context("a circle of the table")?;
         print!(rt; "{number}: ")?;
         print_answer(rt, answer)?;
@@ -114,7 +117,8 @@ fn print_large<I: Iterator<Item = (Money, u64)> + Drop>(
     requires can { I.can_next members }
     requires ends { IsFinite (I.remaining members) }
 {
-    let mut circle = Circle::of(members);
+    let mut circle = Circle::new();
+    circle.fill(members);
     let answer = circle.plan().context("a large circle")?;
     print!(rt; "{name}: ")?;
     print_answer(rt, answer)?;
@@ -202,7 +206,8 @@ mod tests {
     #[test]
     fn three_members_without_bars(rt: HostRuntime) {
         let members = [(Money(2), 0b110), (Money(3), 0b101), (Money(4), 0b011)];
-        let mut circle = Circle::of(members.into_iter());
+        let mut circle = Circle::new();
+        circle.fill(members.into_iter());
         assert_eq!(rt; circle.plan(), Ok(Answer::Plan { steps: 6 }));
         assert_eq!(rt; circle.transfers[1], Money(1));
         assert_eq!(rt; circle.transfers[2], Money(1));
@@ -214,7 +219,8 @@ mod tests {
     #[test]
     fn one_of_two_blocks(rt: HostRuntime) {
         let members = [(Money(1), 0b10), (Money(2), 0b01)];
-        let mut circle = Circle::of(members.into_iter());
+        let mut circle = Circle::new();
+        circle.fill(members.into_iter());
         assert_eq!(rt;
             circle.plan(),
             Ok(Answer::Blocked {
@@ -226,7 +232,8 @@ mod tests {
 
     #[test]
     fn one_member_alone(rt: HostRuntime) {
-        let mut circle = Circle::of([(Money(5), 0)].into_iter());
+        let mut circle = Circle::new();
+        circle.fill([(Money(5), 0)].into_iter());
         assert_eq!(rt;
             circle.plan(),
             Ok(Answer::Blocked {
@@ -242,14 +249,16 @@ mod tests {
             (drift(5, MOST_CHANGE), 0b10),
             (drift(5, -MOST_CHANGE), 0b01),
         ];
-        let mut circle = Circle::of(members.into_iter());
+        let mut circle = Circle::new();
+        circle.fill(members.into_iter());
         assert_eq!(rt; circle.plan(), Ok(Answer::Outgrown { steps: 0 }));
         assert_eq!(rt; circle.transfers[1], drift(0, 0));
     }
 
     #[test]
     fn refusals_in_their_order(rt: HostRuntime) {
-        let mut circle = Circle::of([(Money(1_000_000_000_000_000_001), 1)].into_iter());
+        let mut circle = Circle::new();
+        circle.fill([(Money(1_000_000_000_000_000_001), 1)].into_iter());
         let short = [Money(0); 63];
         let answer = plan(
             1,
@@ -274,9 +283,11 @@ mod tests {
 
     #[test]
     fn drift_below_zero_is_refused(rt: HostRuntime) {
-        let mut circle = Circle::of([(drift(0, -1), 0)].into_iter());
+        let mut circle = Circle::new();
+        circle.fill([(drift(0, -1), 0)].into_iter());
         assert_eq!(rt; circle.plan(), Err(Refusal::NotAnAmount));
-        let mut circle = Circle::of([(drift(0, 1), 0)].into_iter());
+        let mut circle = Circle::new();
+        circle.fill([(drift(0, 1), 0)].into_iter());
         assert_eq!(rt;
             circle.plan(),
             Ok(Answer::Blocked {

@@ -3,21 +3,22 @@ ghost use Rattle.std.specs.Iterator.{IsFinite};
 
 use amounts::Money;
 use anyhow::Context;
-use planner::{Answer, plan};
+use planner::{Answer, MEMBERS, PAIRS, plan};
 use refusals::Refusal;
 use samples::MemberSet;
 use std::fmt::Display;
 use std::{array, io};
 use words::Places;
 
-const MEMBERS: usize = 4;
+// How many members each circle of the report has.
+const COUNT: usize = 4;
 
 // A circle of the report: what its members weigh, and their permission words, in two tables, as the plan call takes them.
 #[derive(Clone, Copy)]
 struct Circle {
     name: &'static str,
-    weights: [u64; MEMBERS],
-    words: [u64; MEMBERS],
+    weights: [u64; COUNT],
+    words: [u64; COUNT],
 }
 
 const OPEN: Circle = Circle {
@@ -32,8 +33,8 @@ const BARRED: Circle = Circle {
     words: [0b1100, 0b1100, 0b0011, 0b0011],
 };
 
-// A table of 64 numbers, zero where nobody is.
-fn table(numbers: [u64; MEMBERS]) -> [u64; 64] {
+// A table of as many numbers as the plan call takes, zero where nobody is.
+fn table(numbers: [u64; COUNT]) -> [u64; MEMBERS] {
     array::from_fn(|place| numbers.get(place).copied().unwrap_or(0))
 }
 
@@ -45,27 +46,23 @@ fn total<'a, I: Iterator<Item = &'a u64> + Drop>(amounts: I) -> u64
     amounts.fold(0, |sum: u64, amount| sum.saturating_add(*amount))
 }
 
-// Prints a cell for each member, and one more, in columns.
+// Prints a cell for each member, and one more, in columns. A row is written at once.
 fn print_row<T: Display + Drop>(
     rt: &impl Print,
     label: &str,
-    cells: &[T],
+    [first, second, third, fourth]: &[T; COUNT],
     last: T,
 ) -> io::Result<()> {
-    print!(rt; "  {label:>8}")?;
-    for cell in cells {
-        print!(rt; "  {cell:>5}")?;
-    }
-    println!(rt; "  {last:>6}")
+    println!(rt; "  {label:>8}  {first:>5}  {second:>5}  {third:>5}  {fourth:>5}  {last:>6}")
 }
 
 // Prints who gives what to whom, with the sums of rows and columns.
 fn print_table(rt: &impl Print, transfers: &[Money]) -> io::Result<()> {
     print_row(rt, "", &["to 1", "to 2", "to 3", "to 4"], "gives")?;
-    let mut gets = [0u64; MEMBERS];
+    let mut gets = [0u64; COUNT];
     let givers = ["from 1", "from 2", "from 3", "from 4"];
-    for (giver, row) in givers.iter().zip(transfers.chunks(64)) {
-        let mut gives = [0u64; MEMBERS];
+    for (giver, row) in givers.iter().zip(transfers.chunks(MEMBERS)) {
+        let mut gives = [0u64; COUNT];
         for ((amount, give), get) in row.iter().zip(gives.iter_mut()).zip(gets.iter_mut()) {
             *give = amount.0;
             *get = get.saturating_add(amount.0);
@@ -79,12 +76,12 @@ impl Circle {
     // Plans the circle into a table of transfers.
     fn plan(&self, transfers: &mut [Money]) -> Result<Answer, Refusal> {
         plan(
-            MEMBERS,
+            COUNT,
             &table(self.weights).map(Money),
             &table(self.words),
             transfers,
-            &mut [Money(0); 64],
-            &mut [Money(0); 64],
+            &mut [Money(0); MEMBERS],
+            &mut [Money(0); MEMBERS],
         )
     }
 
@@ -116,7 +113,7 @@ impl Circle {
 
     fn print(&self, rt: &impl Print) -> anyhow::Result<()> {
         let name = self.name;
-        let mut transfers = [Money(0); 4096];
+        let mut transfers = [Money(0); PAIRS];
         match self.plan(&mut transfers).context(name)? {
             Answer::Plan { steps } => {
                 println!(rt; "{name}: a fair plan, found in {steps} steps")?;

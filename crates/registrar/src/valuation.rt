@@ -7,11 +7,13 @@ use tables::{AGES, DatedTable, Years};
 // Tries a pair of years and says how that went.
 fn try_years(rt: &impl Print, base: u16, valuation: u16) -> io::Result<Result<Years, Refusal>> {
     let years = Years::new(base, valuation);
-    print!(rt; "  base {base}, valuation {valuation}: ")?;
     match years {
-        Ok(_) => println!(rt; "accepted")?,
+        Ok(_) => println!(rt; "  base {base}, valuation {valuation}: accepted")?,
         // printed and not passed on: the report tells refusals by their numbers
-        Err(refusal) => println!(rt; "refused ({})", refusal.number())?,
+        Err(refusal) => println!(rt;
+            "  base {base}, valuation {valuation}: refused ({})",
+            refusal.number()
+        )?,
     }
     Ok(years)
 }
