@@ -74,10 +74,10 @@ pub trait Amount: Copy {
     fn difference(self, other: Self) -> Option<Self>
         ensures { Difference kind self other result }
     {
-        // `&`, and no `&&`, which would be a branch of its own for each test
-        let values = self.is_value() & other.is_value();
-        self.checked_sub(other)
-            .filter(|rest| values & rest.is_value())
+        if !self.is_value() || !other.is_value() {
+            return None;
+        }
+        self.checked_sub(other).filter(|rest| rest.is_value())
     }
 
     // Writes the text of a value at the start of a buffer that has room for it, and answers its length.
